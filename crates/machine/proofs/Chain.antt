@@ -1,0 +1,229 @@
+-- S2's test says that the free chain meets every free cell once, from first to last.
+use mathlib.Core.Path.{_≡_, refl, sym, ap, ap₂, _∙_}
+use mathlib.Core.Logic.{_⊎_, inl, inr, ⊎-elim, _↔_}
+use mathlib.Core.Bool.{Bool, true, false, cond, not, _&&_, _||_}
+use mathlib.Core.List.{List, [], _∷_, _++_, map}
+use Prim.Native.Nat.{ℕ, zero, suc, pred, _+_, _≤_, _<_, zero-le}
+use native.Mathlib.Omega.{arith}
+use native.Mathlib.Nat.{not-suc-le-zero}
+use lib.Dec.{leb, eqb, eqb·suc-zero, eqb·suc-suc}
+use lib.ListN.{length, length-map}
+use borrow.Author.Tests.{eqb-true, eqb-false, eq-eqb, ne-eqb}
+use Rattle.machine.specs.Range.{every, total, matching, occurrences, everyOf, lastOf}
+use Rattle.machine.specs.Words.{isCell}
+use Rattle.machine.specs.Table.{left, right, rootCount, cellCount, state, capacity, firstFree, lastFree, wordAt, inUse, isFree}
+use Rattle.machine.specs.Calls.{field}
+use Rattle.machine.specs.Audit.{walk, freeChain, laidOut, metOnce, chainSound}
+use Rattle.machine.specs.Facts.{Linked, Chain}
+use Rattle.machine.proofs.Range.{tested, or-true, or-left, or-right, and-both, and-first, and-second, every-at, every-all, total-same, total-le, total-add, total-ones, total-zero, total-one, matching-same, matching-other, lt-or-ge}
+use Rattle.machine.proofs.Table.{free-not-in-use, not-in-use-free}
+use Rattle.machine.proofs.Words.{cell-place, cell-number, place-cell}
+
+-- places as numbers
+matching-suc : (w x n : ℕ) → matching (suc w) (suc x) n ≡ matching w x n
+unfolding matching
+matching-suc w x n = rw (eqb·suc-suc w x)
+
+occurrences-suc : (x : ℕ) (is : List ℕ) → occurrences (suc x) (map suc is) ≡ occurrences x is
+unfolding occurrences
+occurrences-suc x [] = refl
+occurrences-suc x (i ∷ is) = rw (matching-suc i x 1, occurrences-suc x is)
+
+abbrev pub Places : ℕ → List ℕ → Type 0
+Places c [] = Unit {0}
+Places c (i ∷ is) = (i < c) × Places c is
+
+-- the places below c, each counted as often as it stands in a list, are the list's length
+total-occurrences : (c : ℕ) (is : List ℕ) → Places c is → total c (λ i. occurrences i is) ≡ length is
+unfolding occurrences
+total-occurrences c [] p = total-zero c
+total-occurrences c (i ∷ is) p =
+    total-add c (λ j. matching i j 1) (λ j. occurrences j is) ∙ ap₂ _+_ (total-one c i (p .0)) (total-occurrences c is (p .1)) ∙ omega arith
+
+-- no place twice: no more than there are
+few : (c : ℕ) (is : List ℕ) → Places c is → ((i : ℕ) → i < c → occurrences i is ≤ 1) → length is ≤ c
+few c is p h = omega (arith, total-occurrences c is p, total-le c (λ i. occurrences i is) (λ i. 1) h, total-ones c)
+
+pub linked-places : (t : List ℕ) (w : ℕ) (is : List ℕ) → Linked t w is → Places (capacity t) is
+linked-places t w [] h = tt
+linked-places t w (i ∷ is) h = (h .1, linked-places t (wordAt t i left) is (h .2))
+
+walk-stop : (t : List ℕ) (n w : ℕ) → eqb w 0 ≡ true → walk t (suc n) w ≡ []
+unfolding walk
+walk-stop t n w e = rw e
+
+walk-on : (t : List ℕ) (n w : ℕ) → eqb w 0 ≡ false → walk t (suc n) w ≡ w ∷ walk t n (field t w left)
+unfolding walk
+walk-on t n w e = rw e
+
+-- a walk that ends before its steps run out is a linked list
+walk-linked : (t : List ℕ) (n w : ℕ) → length (walk t n w) < n → everyOf (walk t n w) (isCell (capacity t)) ≡ true → Linked t w (map pred (walk t n w))
+unfolding field everyOf
+walk-linked t zero w l h = absurd (not-suc-le-zero l)
+walk-linked t (suc n) w l h = ⊎-elim stop (λ e. on e (λ k m. walk-linked t n (field t w left) k m)) (tested (eqb w 0))
+  where
+    stop : eqb w 0 ≡ true → Linked t w (map pred (walk t (suc n) w))
+    stop e = rw (walk-stop t n w e) (eqb-true w 0 e)
+    on : eqb w 0 ≡ false → (length (walk t n (field t w left)) < n → everyOf (walk t n (field t w left)) (isCell (capacity t)) ≡ true → Linked t (field t w left) (map pred (walk t n (field t w left)))) → Linked t w (map pred (walk t (suc n) w))
+    on e f =
+        let h′ = rw (walk-on t n w e) at h in
+        let l′ = rw (walk-on t n w e) at l in
+        let first = and-first (isCell (capacity t) w) (everyOf (walk t n (wordAt t (pred w) left)) (isCell (capacity t))) h′ in
+        let rest = and-second (isCell (capacity t) w) (everyOf (walk t n (wordAt t (pred w) left)) (isCell (capacity t))) h′ in
+        rw (walk-on t n w e) (cell-number (capacity t) w first, cell-place (capacity t) w first, f (omega arith) rest)
+
+-- and the numbers of its places are the walk
+walk-numbers : (c : ℕ) (ws : List ℕ) → everyOf ws (isCell c) ≡ true → map suc (map pred ws) ≡ ws
+unfolding everyOf
+walk-numbers c [] h = refl
+walk-numbers c (w ∷ ws) h =
+    ap₂ _∷_ (sym (cell-number c w (and-first (isCell c w) (everyOf ws (isCell c)) h))) (walk-numbers c ws (and-second (isCell c w) (everyOf ws (isCell c)) h))
+
+-- a linked list is what the walk meets, in steps enough
+linked-walk : (t : List ℕ) (n w : ℕ) (is : List ℕ) → Linked t w is → length is < n → walk t n w ≡ map suc is
+unfolding field
+linked-walk t zero w is h l = absurd (not-suc-le-zero l)
+linked-walk t (suc n) w [] h l = walk-stop t n w (eq-eqb w 0 h)
+linked-walk t (suc n) w (i ∷ is) h l =
+    walk-on t n w (rw (h .0) (eqb·suc-zero i)) ∙ ap₂ _∷_ (h .0) (ap (λ (x : ℕ). walk t n (field t x left)) (h .0) ∙ again (linked-walk t n (wordAt t i left) is (h .2) (omega arith)))
+  where
+    again : walk t n (wordAt t i left) ≡ map suc is → walk t n (field t (suc i) left) ≡ map suc is
+    again e = e
+
+numbers-cells : (c : ℕ) (is : List ℕ) → Places c is → everyOf (map suc is) (isCell c) ≡ true
+unfolding everyOf
+numbers-cells c [] p = refl
+numbers-cells c (i ∷ is) p = and-both (place-cell c i (p .0)) (numbers-cells c is (p .1))
+
+-- the four words behind left
+one-to-four : (P : ℕ → Type 0) → P 1 → P 2 → P 3 → P 4 → (k : ℕ) → right ≤ k → k ≤ state → P k
+one-to-four P a b c d zero l m = absurd (not-suc-le-zero l)
+one-to-four P a b c d (suc zero) l m = a
+one-to-four P a b c d (suc (suc zero)) l m = b
+one-to-four P a b c d (suc (suc (suc zero))) l m = c
+one-to-four P a b c d (suc (suc (suc (suc zero)))) l m = d
+one-to-four P a b c d (suc (suc (suc (suc (suc k))))) l m = absurd (omega arith)
+
+laid-wiped : (t : List ℕ) (i : ℕ) → laidOut t i ≡ true → (k : ℕ) → right ≤ k → k ≤ state → wordAt t i k ≡ 0
+unfolding laidOut
+laid-wiped t i h =
+    let first = eqb (wordAt t i right) 0 in
+    let second = first && eqb (wordAt t i rootCount) 0 in
+    let third = second && eqb (wordAt t i cellCount) 0 in
+    let e₃ = and-first third (eqb (wordAt t i state) 0) h in
+    let e₂ = and-first second (eqb (wordAt t i cellCount) 0) e₃ in
+    one-to-four (λ k. wordAt t i k ≡ 0)
+    (eqb-true (wordAt t i right) 0 (and-first first (eqb (wordAt t i rootCount) 0) e₂))
+    (eqb-true (wordAt t i rootCount) 0 (and-second first (eqb (wordAt t i rootCount) 0) e₂))
+    (eqb-true (wordAt t i cellCount) 0 (and-second second (eqb (wordAt t i cellCount) 0) e₃))
+    (eqb-true (wordAt t i state) 0 (and-second third (eqb (wordAt t i state) 0) h))
+
+wiped-laid : (t : List ℕ) (i : ℕ) → ((k : ℕ) → right ≤ k → k ≤ state → wordAt t i k ≡ 0) → laidOut t i ≡ true
+unfolding laidOut
+wiped-laid t i f =
+    and-both (and-both (and-both (eq-eqb (wordAt t i right) 0 (f 1 (omega arith) (omega arith)))
+    (eq-eqb (wordAt t i rootCount) 0 (f 2 (omega arith) (omega arith))))
+    (eq-eqb (wordAt t i cellCount) 0 (f 3 (omega arith) (omega arith))))
+    (eq-eqb (wordAt t i state) 0 (f 4 (omega arith) (omega arith)))
+
+at-most-one : (b : Bool) → cond b 1 0 ≤ 1
+at-most-one true = omega arith
+at-most-one false = omega arith
+
+module _ (t : List ℕ) (h : chainSound t ≡ true) where
+  abbrev met : List ℕ
+  met = freeChain t
+
+  abbrev all-cells : Bool
+  all-cells = everyOf met (isCell (capacity t))
+
+  abbrev all-once : Bool
+  all-once = every (capacity t) (metOnce t met)
+
+  abbrev last-meets : Bool
+  last-meets = eqb (lastOf met) (lastFree t)
+
+  abbrev all-laid : Bool
+  all-laid = every (capacity t) (λ i. inUse t i || laidOut t i)
+
+  tests : (all-cells && all-once && last-meets && all-laid) ≡ true
+  unfolding chainSound
+  tests = h
+
+  met-cells : all-cells ≡ true
+  met-cells = and-first all-cells all-once (and-first (all-cells && all-once) last-meets (and-first (all-cells && all-once && last-meets) all-laid tests))
+
+  met-once : (i : ℕ) → i < capacity t → occurrences (suc i) met ≡ cond (isFree t i) 1 0
+  unfolding metOnce
+  met-once i l =
+      eqb-true (occurrences (suc i) met) (cond (isFree t i) 1 0)
+      (every-at (capacity t) (metOnce t met) (and-second all-cells all-once (and-first (all-cells && all-once) last-meets (and-first (all-cells && all-once && last-meets) all-laid tests))) i l)
+
+  places : List ℕ
+  places = map pred met
+
+  numbers-of : map suc places ≡ met
+  unfolding places
+  numbers-of = walk-numbers (capacity t) met met-cells
+
+  places-once : (i : ℕ) → i < capacity t → occurrences i places ≡ cond (isFree t i) 1 0
+  places-once i l = sym (occurrences-suc i places) ∙ ap (occurrences (suc i)) numbers-of ∙ met-once i l
+
+  places-below : (ws : List ℕ) → everyOf ws (isCell (capacity t)) ≡ true → Places (capacity t) (map pred ws)
+  unfolding everyOf
+  places-below [] e = tt
+  places-below (w ∷ ws) e =
+      (cell-place (capacity t) w (and-first (isCell (capacity t) w) (everyOf ws (isCell (capacity t))) e),
+      places-below ws (and-second (isCell (capacity t) w) (everyOf ws (isCell (capacity t))) e))
+
+  met-few : length met < suc (capacity t)
+  unfolding places
+  met-few =
+      let n : length (map pred met) ≤ capacity t = few (capacity t) (map pred met) (places-below met met-cells) (λ i l. rw (places-once i l) (at-most-one (isFree t i))) in
+      omega (arith, length-map met pred)
+
+  laid : (i : ℕ) → i < capacity t → isFree t i ≡ true → laidOut t i ≡ true
+  laid i l f =
+      let e = every-at (capacity t) (λ j. inUse t j || laidOut t j) (and-second (all-cells && all-once && last-meets) all-laid tests) i l in
+      rw (free-not-in-use t i f) at e
+
+  pub chain-facts : Chain t (map pred (freeChain t))
+  unfolding places freeChain
+  chain-facts = record {
+      linked = walk-linked t (suc (capacity t)) (firstFree t) met-few met-cells;
+      ends = ap lastOf numbers-of ∙ eqb-true (lastOf met) (lastFree t) (and-second (all-cells && all-once) last-meets (and-first (all-cells && all-once && last-meets) all-laid tests));
+      once = places-once;
+      wiped = λ i k l f. laid-wiped t i (laid i l f) k }
+
+module _ (t : List ℕ) (is : List ℕ) (h : Chain t is) where
+  below : Places (capacity t) is
+  below = linked-places t (firstFree t) is (h .linked)
+
+  pub chain-few : length is ≤ capacity t
+  chain-few = few (capacity t) is below (λ i l. rw (h .once i l) (at-most-one (isFree t i)))
+
+  pub chain-met : freeChain t ≡ map suc is
+  unfolding freeChain
+  chain-met = linked-walk t (suc (capacity t)) (firstFree t) is (h .linked) (omega (arith, chain-few))
+
+  once-test : (i : ℕ) → i < capacity t → metOnce t (map suc is) i ≡ true
+  unfolding metOnce
+  once-test i l = eq-eqb (occurrences (suc i) (map suc is)) (cond (isFree t i) 1 0) (occurrences-suc i is ∙ h .once i l)
+
+  laid-test : (i : ℕ) → i < capacity t → inUse t i || laidOut t i ≡ true
+  laid-test i l =
+      ⊎-elim (λ e. or-left (laidOut t i) e)
+      (λ e. or-right (inUse t i) (wiped-laid t i (λ k. h .wiped i k l (not-in-use-free t i e))))
+      (tested (inUse t i))
+
+  pub chain-test : chainSound t ≡ true
+  unfolding chainSound
+  chain-test =
+      rw chain-met
+      (and-both (and-both (and-both (numbers-cells (capacity t) is below) (every-all (capacity t) (metOnce t (map suc is)) once-test))
+      (eq-eqb (lastOf (map suc is)) (lastFree t) (h .ends)))
+      (every-all (capacity t) (λ i. inUse t i || laidOut t i) laid-test))
+
+-- S2's meaning
+pub chain-is : (t : List ℕ) → (chainSound t ≡ true) ↔ ((is : List ℕ) × Chain t is)
+chain-is t = (λ h. (map pred (freeChain t), chain-facts t h), λ w. chain-test t (w .0) (w .1))

@@ -1,0 +1,27 @@
+-- Laws of words.
+use mathlib.Core.Path.{_≡_, refl}
+use mathlib.Core.Bool.{Bool, true, false, _&&_, _||_}
+use Prim.Native.Nat.{ℕ, zero, suc, pred, _+_, _≤_, _<_}
+use native.Mathlib.Omega.{arith}
+use lib.Dec.{leb, eqb}
+use borrow.Author.Tests.{leb-true, le-leb}
+use Rattle.machine.specs.Words.{isCell}
+use Rattle.machine.proofs.Range.{and-both, and-first, and-second}
+
+-- a cell of c cells is the number of a place below c
+pub cell-place : (c w : ℕ) → isCell c w ≡ true → pred w < c
+unfolding isCell
+cell-place c w h =
+    let l : 1 ≤ w = leb-true 1 w (and-first (leb 1 w) (leb w c) h) in
+    let m : w ≤ c = leb-true w c (and-second (leb 1 w) (leb w c) h) in
+    omega arith
+
+pub cell-number : (c w : ℕ) → isCell c w ≡ true → w ≡ suc (pred w)
+unfolding isCell
+cell-number c w h =
+    let l : 1 ≤ w = leb-true 1 w (and-first (leb 1 w) (leb w c) h) in
+    omega arith
+
+pub place-cell : (c i : ℕ) → i < c → isCell c (suc i) ≡ true
+unfolding isCell
+place-cell c i h = and-both (le-leb 1 (suc i) (omega arith)) (le-leb (suc i) c h)

@@ -1,0 +1,54 @@
+-- For each enum answer the paper's number and values.
+use Prim.Native.Nat.{ℕ}
+use Rattle.machine.specs.declared.Refusal.{Refusal}
+use Rattle.machine.specs.declared.Refusal.the-variants.{StoreOutOfRange, ScratchTooShort, NumberOutOfRange, IllegalWord, NotACell, NotHeld, QueueFull, NoFreeCell, HeldCountTooHigh, TooManyPointers}
+use Rattle.machine.specs.declared.RowAnswer
+use Rattle.machine.specs.declared.RowAnswer.{RowAnswer}
+use Rattle.machine.specs.declared.FreshAnswer
+use Rattle.machine.specs.declared.FreshAnswer.{FreshAnswer}
+use Rattle.machine.specs.declared.StepAnswer
+use Rattle.machine.specs.declared.StepAnswer.{StepAnswer}
+use Rattle.machine.specs.declared.AuditAnswer
+use Rattle.machine.specs.declared.AuditAnswer.{AuditAnswer}
+use Rattle.machine.specs.declared.Rule
+use Rattle.machine.specs.declared.Rule.{Rule}
+use Rattle.machine.specs.Calls.{Reply, value, refused, idle, applied, sound, broken}
+
+-- the question answered "no"
+abbrev pub refusalNumber : Refusal → ℕ
+refusalNumber StoreOutOfRange = 1
+refusalNumber ScratchTooShort = 2
+refusalNumber NumberOutOfRange = 3
+refusalNumber IllegalWord = 4
+refusalNumber NotACell = 5
+refusalNumber NotHeld = 6
+refusalNumber QueueFull = 7
+refusalNumber NoFreeCell = 8
+refusalNumber HeldCountTooHigh = 9
+refusalNumber TooManyPointers = 10
+
+-- the rule broken
+abbrev pub ruleNumber : Rule → ℕ
+ruleNumber Rule.Cells = 1
+ruleNumber Rule.FreeChain = 2
+ruleNumber Rule.Packets = 3
+ruleNumber Rule.Pointers = 4
+ruleNumber Rule.Reached = 5
+
+abbrev pub rowReply : RowAnswer → Reply
+rowReply (RowAnswer.Done w) = value w
+rowReply (RowAnswer.Refused r) = refused (refusalNumber r)
+
+abbrev pub freshReply : FreshAnswer → Reply
+freshReply FreshAnswer.Done = value 0
+freshReply (FreshAnswer.Refused r) = refused (refusalNumber r)
+
+abbrev pub stepReply : StepAnswer → Reply
+stepReply StepAnswer.Idle = idle
+stepReply (StepAnswer.Applied k n) = applied k n
+stepReply (StepAnswer.Refused r) = refused (refusalNumber r)
+
+abbrev pub auditAnswerReply : AuditAnswer → Reply
+auditAnswerReply AuditAnswer.Sound = sound
+auditAnswerReply (AuditAnswer.Broken r) = broken (ruleNumber r)
+auditAnswerReply (AuditAnswer.Refused r) = refused (refusalNumber r)

@@ -1,0 +1,19 @@
+-- The machine of document 01, in its order. What a reader must believe stands in these modules.
+pub mod Range
+pub mod Words
+pub mod Table
+pub mod Queue
+pub mod Packets
+pub mod Counts
+pub mod Reached
+pub mod Calls
+pub mod Holds
+pub mod Step
+pub mod Questions
+pub mod Audit
+pub mod Facts
+pub mod Machine
+pub mod Answers
+pub mod Promise
+pub mod Counters
+pub mod Cases

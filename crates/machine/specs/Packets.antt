@@ -1,0 +1,113 @@
+-- The table of packet kinds: what each kind changes when it is taken, which cells it names, and how often its call named each cell.
+use mathlib.Core.Bool.{Bool, true, false, cond, _&&_, _||_}
+use mathlib.Core.List.{List, [], _∷_}
+use Prim.Native.Nat.{ℕ, _+_}
+use lib.Dec.{eqb}
+use Rattle.machine.specs.Range.{matching}
+use Rattle.machine.specs.Table.{left, right}
+use Rattle.machine.specs.Queue.{Packet}
+
+-- kinds 1, 2, 3 and 6 (by the field replaced), 4, 5; any other number
+pub data Kind : Type 0 where
+  reads : Kind
+  makes : Kind
+  replaces : ℕ → Kind
+  raises : Kind
+  lowers : Kind
+  unknown : Kind
+
+unfoldable pub kindOf : ℕ → Kind
+kindOf k =
+    cond (eqb k 1) reads
+    (cond (eqb k 2) makes
+    (cond (eqb k 3) (replaces left)
+    (cond (eqb k 4) raises
+    (cond (eqb k 5) lowers
+    (cond (eqb k 6) (replaces right) unknown)))))
+
+-- a root count and a cell count are counters of two sorts
+pub data Counter : Type 0 where
+  root : Counter
+  cell : Counter
+
+pub data Direction : Type 0 where
+  plus : Direction
+  minus : Direction
+
+-- one count change of a word; nil and atoms have no counts
+pub record Change : Type 0 where
+  pub counter : Counter
+  pub word : ℕ
+  pub direction : Direction
+  pub amount : ℕ
+
+abbrev change : Counter → ℕ → Direction → ℕ → Change
+change k w d n = record { counter = k; word = w; direction = d; amount = n }
+
+-- "changes when taken", the last column, in its order
+unfoldable pub changesOf : Kind → ℕ → ℕ → List Change
+changesOf reads a b = change root a minus 1 ∷ change root b plus 1 ∷ []
+changesOf makes a b = change root a minus 1 ∷ change root b minus 1 ∷ change cell a plus 1 ∷ change cell b plus 1 ∷ []
+changesOf (replaces field) a b = change root a minus 1 ∷ change cell a plus 1 ∷ change cell b minus 1 ∷ []
+changesOf raises a b = change root a plus b ∷ []
+changesOf lowers a b = change root a minus b ∷ []
+changesOf unknown a b = []
+
+unfoldable pub changes : Packet → List Change
+changes p = changesOf (kindOf (p .kind)) (p .a) (p .b)
+
+-- kinds 4 and 5 name a only; the others name each cell among a, b, c
+unfoldable pub namesOf : Kind → ℕ → ℕ → ℕ → List ℕ
+namesOf reads a b c = a ∷ b ∷ c ∷ []
+namesOf makes a b c = a ∷ b ∷ c ∷ []
+namesOf (replaces field) a b c = a ∷ b ∷ c ∷ []
+namesOf raises a b c = a ∷ []
+namesOf lowers a b c = a ∷ []
+namesOf unknown a b c = []
+
+unfoldable pub names : Packet → List ℕ
+names p = namesOf (kindOf (p .kind)) (p .a) (p .b) (p .c)
+
+-- how often the call behind a packet names x: its operands that are cells, and down its cell n times
+unfoldable pub usesOf : Kind → ℕ → ℕ → ℕ → ℕ → ℕ
+usesOf reads a b c x = matching a x 1
+usesOf makes a b c x = matching a x 1 + matching b x 1
+usesOf (replaces field) a b c x = matching a x 1 + matching c x 1
+usesOf raises a b c x = matching a x 1
+usesOf lowers a b c x = matching a x b
+usesOf unknown a b c x = 0
+
+unfoldable pub uses : Packet → ℕ → ℕ
+uses p x = usesOf (kindOf (p .kind)) (p .a) (p .b) (p .c) x
+
+abbrev pub sameCounter : Counter → Counter → Bool
+sameCounter root root = true
+sameCounter root cell = false
+sameCounter cell root = false
+sameCounter cell cell = true
+
+abbrev pub sameDirection : Direction → Direction → Bool
+sameDirection plus plus = true
+sameDirection plus minus = false
+sameDirection minus plus = false
+sameDirection minus minus = true
+
+-- by how much a list of changes moves one counter of x in one direction, each change counted as often as it is listed
+unfoldable pub movedBy : Counter → Direction → ℕ → List Change → ℕ
+movedBy k d x [] = 0
+movedBy k d x (h ∷ hs) = cond (sameCounter k (h .counter) && sameDirection d (h .direction)) (matching (h .word) x (h .amount)) 0 + movedBy k d x hs
+
+-- "Waiting changes": what the last column gives for all waiting packets together
+unfoldable pub waitingChange : Counter → Direction → ℕ → List Packet → ℕ
+waitingChange k d x [] = 0
+waitingChange k d x (p ∷ ps) = movedBy k d x (changes p) + waitingChange k d x ps
+
+-- whether a list of words has x in it
+unfoldable pub contains : List ℕ → ℕ → Bool
+contains [] x = false
+contains (w ∷ ws) x = eqb w x || contains ws x
+
+-- a waiting packet names x
+unfoldable pub isNamed : List Packet → ℕ → Bool
+isNamed [] x = false
+isNamed (p ∷ ps) x = contains (names p) x || isNamed ps x

@@ -1,0 +1,134 @@
+-- "Questions before a call": the ten questions, and for each call which are asked in what order.
+use mathlib.Core.Bool.{Bool, true, false, _&&_, _||_}
+use mathlib.Core.List.{List, [], _∷_, _++_}
+use Prim.Native.Nat.{ℕ, suc}
+use lib.Dec.{leb, ltb, eqb}
+use lib.ListN.{length}
+use Rattle.machine.specs.declared.Queue.{Queue}
+use Rattle.machine.specs.Range.{every, exists, everyOf}
+use Rattle.machine.specs.Words.{isCell, isLegal, ceiling, mostCells}
+use Rattle.machine.specs.Table.{capacity, firstFree, lastFree, tableLength, isFree}
+use Rattle.machine.specs.Queue.{Packet, slots, appended, waiting}
+use Rattle.machine.specs.Packets.{uses}
+use Rattle.machine.specs.Counts.{heldAtLeast, heldAtMost, pointers}
+use Rattle.machine.specs.Calls.{RowCall, car, cdr, cons, setLeft, setRight, up, down}
+use Rattle.machine.specs.Calls.{Call, fresh, row, step, audit, Store, packetOf, written}
+
+-- a question's number, and its answer
+pub record Question : Type 0 where
+  pub number : ℕ
+  pub answer : Bool
+
+abbrev pub ask : ℕ → Bool → Question
+ask n b = record { number = n; answer = b }
+
+-- the number of the first "no", or 0
+abbrev pub refusedBy : Bool → ℕ → ℕ → ℕ
+refusedBy true n rest = rest
+refusedBy false n rest = n
+
+unfoldable pub firstNo : List Question → ℕ
+firstNo [] = 0
+firstNo (k ∷ ks) = refusedBy (k .answer) (k .number) (firstNo ks)
+
+within : ℕ → ℕ → ℕ → Bool
+within low high n = leb low n && leb n high
+
+-- 1. C, both free ends, the queue's place and count are within range, and the table has the words for its cells
+unfoldable pub inRange : List ℕ → Queue → Bool
+unfolding within
+inRange t q =
+    within 1 mostCells (capacity t)
+    && leb (firstFree t) (capacity t)
+    && leb (lastFree t) (capacity t)
+    && ltb (q .place) slots
+    && leb (q .count) slots
+    && leb (tableLength (capacity t)) (length t)
+
+-- of fresh: only whether the table is long enough
+unfoldable pub longEnough : ℕ → List ℕ → Bool
+longEnough c t = leb (tableLength c) (length t)
+
+-- 2. the scratch has C words or more
+unfoldable pub scratchEnough : List ℕ → List ℕ → Bool
+scratchEnough t s = leb (capacity t) (length s)
+
+-- 3. the number is within its range: C 1 to 4,096, n 1 to 4,095
+unfoldable pub cellsInRange : ℕ → Bool
+unfolding within
+cellsInRange c = within 1 mostCells c
+
+unfoldable pub numberInRange : ℕ → Bool
+unfolding within
+numberInRange n = within 1 ceiling n
+
+-- 4. each operand that is a word is legal here
+unfoldable pub wordsLegal : List ℕ → List ℕ → Bool
+wordsLegal t ws = everyOf ws (isLegal (capacity t))
+
+-- 5. x is a cell
+unfoldable pub xIsCell : List ℕ → ℕ → Bool
+xIsCell t x = isCell (capacity t) x
+
+-- 6. each named cell is held as often as the call behind the packet names it
+unfoldable pub heldEnough : List ℕ → List Packet → Packet → Bool
+heldEnough t ps p = every (capacity t) (λ i. eqb (uses p (suc i)) 0 || heldAtLeast t ps i (uses p (suc i)))
+
+-- 7. a queue slot is empty
+unfoldable pub slotEmpty : Queue → Bool
+slotEmpty q = ltb (q .count) slots
+
+-- 8. a cell is free
+unfoldable pub cellFree : List ℕ → Bool
+cellFree t = exists (capacity t) (isFree t)
+
+-- 9. every held count is at most 4,095
+unfoldable pub heldWithin : List ℕ → List Packet → Bool
+heldWithin t ps = every (capacity t) (λ i. heldAtMost t ps i ceiling)
+
+-- 10. there are at most 4,095 pointers to each cell
+unfoldable pub pointersWithin : List ℕ → Bool
+pointersWithin t = every (capacity t) (λ i. leb (pointers t (suc i)) ceiling)
+
+-- questions 1 to 5, which have an answer on every store
+unfoldable pub earlyRow : List ℕ → RowCall → List Question
+earlyRow t (car x) = ask 4 (wordsLegal t (x ∷ [])) ∷ ask 5 (xIsCell t x) ∷ []
+earlyRow t (cdr x) = ask 4 (wordsLegal t (x ∷ [])) ∷ ask 5 (xIsCell t x) ∷ []
+earlyRow t (cons x y) = ask 4 (wordsLegal t (x ∷ y ∷ [])) ∷ []
+earlyRow t (setLeft x y) = ask 4 (wordsLegal t (x ∷ y ∷ [])) ∷ ask 5 (xIsCell t x) ∷ []
+earlyRow t (setRight x y) = ask 4 (wordsLegal t (x ∷ y ∷ [])) ∷ ask 5 (xIsCell t x) ∷ []
+earlyRow t (up x n) = ask 3 (numberInRange n) ∷ ask 4 (wordsLegal t (x ∷ [])) ∷ ask 5 (xIsCell t x) ∷ []
+earlyRow t (down x n) = ask 3 (numberInRange n) ∷ ask 4 (wordsLegal t (x ∷ [])) ∷ ask 5 (xIsCell t x) ∷ []
+
+unfoldable pub early : Store → Call → List Question
+early s (fresh c) = ask 3 (cellsInRange c) ∷ ask 1 (longEnough c (s .table)) ∷ []
+early s (row r) = ask 1 (inRange (s .table) (s .queue)) ∷ earlyRow (s .table) r
+early s step = ask 1 (inRange (s .table) (s .queue)) ∷ ask 2 (scratchEnough (s .table) (s .scratch)) ∷ []
+early s audit = ask 1 (inRange (s .table) (s .queue)) ∷ ask 2 (scratchEnough (s .table) (s .scratch)) ∷ []
+
+-- question 8 is cons's alone
+unfoldable pub askFree : List ℕ → RowCall → List Question
+askFree t (car x) = []
+askFree t (cdr x) = []
+askFree t (cons x y) = ask 8 (cellFree t) ∷ []
+askFree t (setLeft x y) = []
+askFree t (setRight x y) = []
+askFree t (up x n) = []
+askFree t (down x n) = []
+
+-- questions 6 to 10, asked of row calls: 9 and 10 of the store after the call
+unfoldable pub lateRow : List ℕ → Queue → RowCall → List Question
+lateRow t q r =
+    ask 6 (heldEnough t (waiting q) (packetOf t r))
+    ∷ ask 7 (slotEmpty q)
+    ∷ askFree t r
+    ++ (ask 9 (heldWithin (written t r) (waiting (appended q (packetOf t r)))) ∷ ask 10 (pointersWithin (written t r)) ∷ [])
+
+unfoldable pub late : Store → Call → List Question
+late s (fresh c) = []
+late s (row r) = lateRow (s .table) (s .queue) r
+late s step = []
+late s audit = []
+
+unfoldable pub questions : Store → Call → List Question
+questions s call = early s call ++ late s call

@@ -1,0 +1,62 @@
+-- "The queue": 64 slots, the first slot's place, the count. A slot has a kind and words a, b, c.
+use mathlib.Core.Bool.{Bool, _&&_}
+use mathlib.Core.List.{List, [], _∷_}
+use Prim.Native.Nat.{ℕ, zero, suc, _+_, _-_, _%_}
+use lib.Dec.{eqb}
+use lib.ListN.{getD, set, replicate}
+use Rattle.machine.specs.declared.Queue.{Queue}
+
+abbrev pub slots : ℕ
+slots = 64
+
+-- what a slot holds
+pub record Packet : Type 0 where
+  pub kind : ℕ
+  pub a : ℕ
+  pub b : ℕ
+  pub c : ℕ
+
+abbrev pub packet : ℕ → ℕ → ℕ → ℕ → Packet
+packet k a b c = record { kind = k; a = a; b = b; c = c }
+
+abbrev pub zeroPacket : Packet
+zeroPacket = packet 0 0 0 0
+
+abbrev pub emptyQueue : Queue
+emptyQueue = record {
+    kinds = replicate slots 0;
+    a = replicate slots 0;
+    b = replicate slots 0;
+    c = replicate slots 0;
+    place = 0;
+    count = 0 }
+
+unfoldable pub slot : Queue → ℕ → Packet
+slot q j = packet (getD (q .kinds) j 0) (getD (q .a) j 0) (getD (q .b) j 0) (getD (q .c) j 0)
+
+-- the queue with the packet p in slot j, at another place and count
+unfoldable pub putSlot : Queue → ℕ → Packet → ℕ → ℕ → Queue
+putSlot q j p place count = record {
+    kinds = set (q .kinds) j (p .kind);
+    a = set (q .a) j (p .a);
+    b = set (q .b) j (p .b);
+    c = set (q .c) j (p .c);
+    place = place;
+    count = count }
+
+-- a new packet takes the slot that lies count places after the first, 63 followed by 0
+unfoldable pub appended : Queue → Packet → Queue
+appended q p = putSlot q ((q .place + q .count) % slots) p (q .place) (q .count + 1)
+
+-- a taken slot becomes zero and the place moves on by one, 63 to 0
+unfoldable pub taken : Queue → Queue
+taken q = putSlot q (q .place) zeroPacket ((q .place + 1) % slots) (q .count - 1)
+
+-- n packets from place j on
+unfoldable pub packetsFrom : Queue → ℕ → ℕ → List Packet
+packetsFrom q j zero = []
+packetsFrom q j (suc n) = slot q (j % slots) ∷ packetsFrom q (suc j) n
+
+-- the waiting packets, oldest first
+unfoldable pub waiting : Queue → List Packet
+waiting q = packetsFrom q (q .place) (q .count)

@@ -1,0 +1,84 @@
+-- "Collector step" (source 001's figures 8 and 9, as document 01 amends them).
+use mathlib.Core.Bool.{Bool, cond, not, _&&_}
+use mathlib.Core.List.{List, [], _∷_, _++_}
+use Prim.Native.Nat.{ℕ, suc, pred, _+_, _-_}
+use lib.Dec.{eqb}
+use lib.ListN.{length, drop, replicate}
+use Rattle.machine.specs.Range.{select}
+use Rattle.machine.specs.Words.{isCell}
+use Rattle.machine.specs.Table.{left, right, rootCount, cellCount, capacity, firstFree, lastFree, wordAt, putWord, putEnds, putCell, inUse}
+use Rattle.machine.specs.Queue.{Packet, waiting, taken}
+use Rattle.machine.specs.Packets.{Counter, root, cell, Direction, plus, minus, Change, changes}
+use Rattle.machine.specs.Reached.{reached}
+use Rattle.machine.specs.Calls.{Reply, idle, applied, Store, store}
+
+-- where a counter stands in its cell
+abbrev pub counterWord : Counter → ℕ
+counterWord root = rootCount
+counterWord cell = cellCount
+
+-- a count raised or lowered by n
+abbrev pub shifted : Direction → ℕ → ℕ → ℕ
+shifted plus count n = count + n
+shifted minus count n = count - n
+
+-- one counter of the word w moved by n, if w is a cell
+unfoldable pub moveCount : List ℕ → Counter → ℕ → Direction → ℕ → List ℕ
+moveCount t k w d n =
+    cond (isCell (capacity t) w) (putWord t (pred w) (counterWord k) (shifted d (wordAt t (pred w) (counterWord k)) n)) t
+
+-- a packet's changes made one by one
+unfoldable pub applyChanges : List ℕ → List Change → List ℕ
+applyChanges t [] = t
+applyChanges t (h ∷ hs) = applyChanges (moveCount t (h .counter) (h .word) (h .direction) (h .amount)) hs
+
+-- the places of the cells in use that are not reached, ascending
+unfoldable pub unreached : List ℕ → List Packet → List ℕ
+unreached t ps = select (capacity t) (λ i. inUse t i && not (reached t ps i))
+
+-- each pointer out of the cells at these places lowers a cell count
+unfoldable pub lowerPointers : List ℕ → List ℕ → List ℕ
+lowerPointers t [] = t
+lowerPointers t (i ∷ is) = lowerPointers (moveCount (moveCount t cell (wordAt t i left) minus 1) cell (wordAt t i right) minus 1) is
+
+-- append_cell: a cell joins the free chain at its end, all its words 0
+unfoldable pub join : List ℕ → ℕ → List ℕ
+join t i =
+    let wiped = putCell t i 0 0 0 0 0 in
+    cond (eqb (lastFree t) 0)
+    (putEnds wiped (suc i) (suc i))
+    (putEnds (putWord wiped (pred (lastFree t)) left (suc i)) (firstFree t) (suc i))
+
+unfoldable pub joinAll : List ℕ → List ℕ → List ℕ
+joinAll t [] = t
+joinAll t (i ∷ is) = joinAll (join t i) is
+
+-- sweep: the cells at these places are freed
+unfoldable pub swept : List ℕ → List ℕ → List ℕ
+swept t is = joinAll (lowerPointers t is) is
+
+-- the first c words of the scratch 0, the rest untouched
+unfoldable pub cleared : ℕ → List ℕ → List ℕ
+cleared c s = replicate c 0 ++ drop c s
+
+pub record Outcome : Type 0 where
+  pub reply : Reply
+  pub after : Store
+
+abbrev pub outcome : Reply → Store → Outcome
+outcome r s = record { reply = r; after = s }
+
+-- a step that takes the packet p, with ps waiting behind it
+unfoldable pub stepWith : Store → Packet → List Packet → Outcome
+stepWith s p ps =
+    let t = applyChanges (s .table) (changes p) in
+    let dead = unreached t ps in
+    outcome (applied (p .kind) (length dead)) (store (swept t dead) (taken (s .queue)) (cleared (capacity t) (s .scratch)))
+
+-- with no packet waiting the reply is idle and nothing changes; else the oldest packet is applied
+unfoldable pub stepFrom : Store → List Packet → Outcome
+stepFrom s [] = outcome idle s
+stepFrom s (p ∷ ps) = stepWith s p ps
+
+unfoldable pub stepped : Store → Outcome
+stepped s = stepFrom s (waiting (s .queue))

@@ -1,0 +1,25 @@
+-- "Words": 0 is nil, 1 to C is a cell, 32,768 to 65,535 is an atom. No other word is legal.
+use mathlib.Core.Bool.{Bool, _&&_, _||_}
+use Prim.Native.Nat.{ℕ}
+use lib.Dec.{leb, eqb}
+
+unfoldable pub isNil : ℕ → Bool
+isNil w = eqb w 0
+
+-- a cell of a table of c cells
+unfoldable pub isCell : ℕ → ℕ → Bool
+isCell c w = leb 1 w && leb w c
+
+unfoldable pub isAtom : ℕ → Bool
+isAtom w = leb 32768 w && leb w 65535
+
+unfoldable pub isLegal : ℕ → ℕ → Bool
+isLegal c w = isNil w || isCell c w || isAtom w
+
+-- the ceiling of root counts, cell counts, held counts, pointers and n
+abbrev pub ceiling : ℕ
+ceiling = 4095
+
+-- the largest C
+abbrev pub mostCells : ℕ
+mostCells = 4096
