@@ -16,7 +16,7 @@ use Rattle.machine.specs.Calls.{field}
 use Rattle.machine.specs.Audit.{walk, freeChain, laidOut, metOnce, chainSound}
 use Rattle.machine.specs.Facts.{Linked, Chain}
 use Rattle.machine.proofs.Range.{tested, or-true, or-left, or-right, and-both, and-first, and-second, every-at, every-all, total-same, total-le, total-add, total-ones, total-zero, total-one, matching-same, matching-other, lt-or-ge}
-use Rattle.machine.proofs.Table.{free-not-in-use, not-in-use-free}
+use Rattle.machine.proofs.Table.{each-word, free-not-in-use, not-in-use-free}
 use Rattle.machine.proofs.Words.{cell-place, cell-number, place-cell}
 
 -- places as numbers
@@ -64,6 +64,7 @@ walk-linked t (suc n) w l h = ⊎-elim stop (λ e. on e (λ k m. walk-linked t n
   where
     stop : eqb w 0 ≡ true → Linked t w (map pred (walk t (suc n) w))
     stop e = rw (walk-stop t n w e) (eqb-true w 0 e)
+
     on : eqb w 0 ≡ false → (length (walk t n (field t w left)) < n → everyOf (walk t n (field t w left)) (isCell (capacity t)) ≡ true → Linked t (field t w left) (map pred (walk t n (field t w left)))) → Linked t w (map pred (walk t (suc n) w))
     on e f =
         let h′ = rw (walk-on t n w e) at h in
@@ -95,15 +96,6 @@ unfolding everyOf
 numbers-cells c [] p = refl
 numbers-cells c (i ∷ is) p = and-both (place-cell c i (p .0)) (numbers-cells c is (p .1))
 
--- the four words behind left
-one-to-four : (P : ℕ → Type 0) → P 1 → P 2 → P 3 → P 4 → (k : ℕ) → right ≤ k → k ≤ state → P k
-one-to-four P a b c d zero l m = absurd (not-suc-le-zero l)
-one-to-four P a b c d (suc zero) l m = a
-one-to-four P a b c d (suc (suc zero)) l m = b
-one-to-four P a b c d (suc (suc (suc zero))) l m = c
-one-to-four P a b c d (suc (suc (suc (suc zero)))) l m = d
-one-to-four P a b c d (suc (suc (suc (suc (suc k))))) l m = absurd (omega arith)
-
 laid-wiped : (t : List ℕ) (i : ℕ) → laidOut t i ≡ true → (k : ℕ) → right ≤ k → k ≤ state → wordAt t i k ≡ 0
 unfolding laidOut
 laid-wiped t i h =
@@ -112,11 +104,12 @@ laid-wiped t i h =
     let third = second && eqb (wordAt t i cellCount) 0 in
     let e₃ = and-first third (eqb (wordAt t i state) 0) h in
     let e₂ = and-first second (eqb (wordAt t i cellCount) 0) e₃ in
-    one-to-four (λ k. wordAt t i k ≡ 0)
-    (eqb-true (wordAt t i right) 0 (and-first first (eqb (wordAt t i rootCount) 0) e₂))
-    (eqb-true (wordAt t i rootCount) 0 (and-second first (eqb (wordAt t i rootCount) 0) e₂))
-    (eqb-true (wordAt t i cellCount) 0 (and-second second (eqb (wordAt t i cellCount) 0) e₃))
-    (eqb-true (wordAt t i state) 0 (and-second third (eqb (wordAt t i state) 0) h))
+    λ k low high. each-word (λ n. right ≤ n → wordAt t i n ≡ 0) (λ z. absurd (not-suc-le-zero z))
+    (λ _. eqb-true (wordAt t i right) 0 (and-first first (eqb (wordAt t i rootCount) 0) e₂))
+    (λ _. eqb-true (wordAt t i rootCount) 0 (and-second first (eqb (wordAt t i rootCount) 0) e₂))
+    (λ _. eqb-true (wordAt t i cellCount) 0 (and-second second (eqb (wordAt t i cellCount) 0) e₃))
+    (λ _. eqb-true (wordAt t i state) 0 (and-second third (eqb (wordAt t i state) 0) h))
+    k (omega arith) low
 
 wiped-laid : (t : List ℕ) (i : ℕ) → ((k : ℕ) → right ≤ k → k ≤ state → wordAt t i k ≡ 0) → laidOut t i ≡ true
 unfolding laidOut
@@ -172,9 +165,10 @@ module _ (t : List ℕ) (h : chainSound t ≡ true) where
   places-below : (ws : List ℕ) → everyOf ws (isCell (capacity t)) ≡ true → Places (capacity t) (map pred ws)
   unfolding everyOf
   places-below [] e = tt
-  places-below (w ∷ ws) e =
-      (cell-place (capacity t) w (and-first (isCell (capacity t) w) (everyOf ws (isCell (capacity t))) e),
-      places-below ws (and-second (isCell (capacity t) w) (everyOf ws (isCell (capacity t))) e))
+  places-below (w ∷ ws) e = (
+    cell-place (capacity t) w (and-first (isCell (capacity t) w) (everyOf ws (isCell (capacity t))) e),
+    places-below ws (and-second (isCell (capacity t) w) (everyOf ws (isCell (capacity t))) e),
+  )
 
   met-few : length met < suc (capacity t)
   unfolding places
@@ -190,10 +184,11 @@ module _ (t : List ℕ) (h : chainSound t ≡ true) where
   pub chain-facts : Chain t (map pred (freeChain t))
   unfolding places freeChain
   chain-facts = record {
-      linked = walk-linked t (suc (capacity t)) (firstFree t) met-few met-cells;
-      ends = ap lastOf numbers-of ∙ eqb-true (lastOf met) (lastFree t) (and-second (all-cells && all-once) last-meets (and-first (all-cells && all-once && last-meets) all-laid tests));
-      once = places-once;
-      wiped = λ i k l f. laid-wiped t i (laid i l f) k }
+    linked = walk-linked t (suc (capacity t)) (firstFree t) met-few met-cells;
+    ends = ap lastOf numbers-of ∙ eqb-true (lastOf met) (lastFree t) (and-second (all-cells && all-once) last-meets (and-first (all-cells && all-once && last-meets) all-laid tests));
+    once = places-once;
+    wiped = λ i k l f. laid-wiped t i (laid i l f) k;
+  }
 
 module _ (t : List ℕ) (is : List ℕ) (h : Chain t is) where
   below : Places (capacity t) is

@@ -5,4 +5,12 @@ pub mod Table
 pub mod Ring
 pub mod Reached
 pub mod Chain
+pub mod Replay
+pub mod Undo
+pub mod Moves
+pub mod Sweep
+pub mod Select
+pub mod Fresh
+pub mod Asked
+pub mod Kept
 pub mod Cases

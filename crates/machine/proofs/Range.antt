@@ -97,6 +97,7 @@ total-at (suc n) f g j l e = ⊎-elim (λ m. inside m (total-at n f g j m (λ i 
   where
     inside : j < n → total n f + g j ≡ total n g + f j → total n f + f n + g j ≡ total n g + g n + f j
     inside m h = let d : f n ≡ g n = e n (omega arith) (omega arith) in omega arith
+
     last : j ≡ n → total n f + f n + g j ≡ total n g + g n + f j
     last m =
         let h : total n f ≡ total n g = total-same n f g (λ i k. e i (omega arith) (omega arith)) in
@@ -114,6 +115,7 @@ total-lt (suc n) f g j l e d = ⊎-elim (λ m. inside (total-lt n f g j m (λ i 
   where
     inside : total n f < total n g → total n f + f n < total n g + g n
     inside h = omega (arith, e n (omega arith))
+
     last : j ≡ n → total n f + f n < total n g + g n
     last m =
         let h : total n f ≤ total n g = total-le n f g (λ i k. e i (omega arith)) in
@@ -139,7 +141,7 @@ total-add (suc n) f g = rw (total-add n f g) (omega arith)
 pub total-one : (n j : ℕ) → j < n → total n (λ i. matching j i 1) ≡ 1
 total-one n j l =
     let e : total n (λ i. matching j i 1) + 0 ≡ total n (λ i. 0) + matching j j 1 =
-        total-at n (λ i. matching j i 1) (λ i. 0) j l (λ i k d. matching-other j i 1 (λ x. d (sym x))) in
+    total-at n (λ i. matching j i 1) (λ i. 0) j l (λ i k d. matching-other j i 1 (λ x. d (sym x))) in
     omega (arith, total-zero n, matching-same j j 1 refl)
 
 -- a test that fails of some number below the bound
@@ -167,6 +169,7 @@ getD-tabulate (suc n) f i l = ⊎-elim (λ m. inside m (getD-tabulate n f i m)) 
   where
     inside : i < n → getD (tabulate n f) i false ≡ f i → getD (tabulate n f ++ (f n ∷ [])) i false ≡ f i
     inside m h = rw (List·getD-append (tabulate n f) (f n ∷ []) false i (rw (length-tabulate n f) m)) h
+
     last : i ≡ n → getD (tabulate n f ++ (f n ∷ [])) i false ≡ f i
     last e = getD-at (tabulate n f) (f n) [] false i (length-tabulate n f ∙ sym e) ∙ ap f (sym e)
 

@@ -23,6 +23,7 @@ marked-tabulate c f i h = ⊎-elim inside outside (lt-or-ge i c)
   where
     inside : i < c → (i < c) × (f i ≡ true)
     inside l = (l, sym (getD-tabulate c f i l) ∙ h)
+
     outside : c ≤ i → (i < c) × (f i ≡ true)
     outside l = absurd (false≢true (sym (List·getD-eq-default (tabulate c f) false (rw (length-tabulate c f) l)) ∙ h))
 
@@ -98,8 +99,10 @@ module _ (c : ℕ) (start : ℕ → Bool) (edge : ℕ → ℕ → Bool) where
     where
       test : ℕ → Bool
       test i = not (marked (spread c edge ms) i) || marked ms i
+
       settled : every c test ≡ true → (i : ℕ) → i < c → marked (spread c edge ms) i ≡ true → marked ms i ≡ true
       settled e i l h = let k : not (marked (spread c edge ms) i) || marked ms i ≡ true = every-at c test e i l in rw h at k
+
       more : (i : ℕ) × (i < c) × (test i ≡ false) → total c (bit ms) < total c (bit (spread c edge ms))
       more w =
           let o = or-false (not (marked (spread c edge ms) (w .0))) (marked ms (w .0)) (w .2) in
@@ -114,6 +117,7 @@ module _ (c : ℕ) (start : ℕ → Bool) (edge : ℕ → ℕ → Bool) where
     where
       earlier : (k : ℕ) × (k ≤ n) × Stable (marks c start edge k) → (k : ℕ) × (k ≤ suc n) × Stable (marks c start edge k)
       earlier w = let l = w .1 in (w .0, omega arith, w .2)
+
       counted : n ≤ count (marks c start edge n) → count (marks c start edge n) < count (spread c edge (marks c start edge n)) → suc n ≤ count (spread c edge (marks c start edge n))
       counted h l = omega arith
 
@@ -123,6 +127,7 @@ module _ (c : ℕ) (start : ℕ → Bool) (edge : ℕ → ℕ → Bool) where
     where
       most : (k : ℕ) → k < c → bit ms k ≤ 1
       most k m = ⊎-elim (λ (e : marked ms k ≡ true). rw e (omega arith)) (λ (e : marked ms k ≡ false). rw e (omega arith)) (tested (marked ms k))
+
       short : marked ms i ≡ false → ⊥
       short e =
           let less : total c (bit ms) < total c (λ k. 1) = total-lt c (bit ms) (λ k. 1) i l most (rw e (omega arith)) in

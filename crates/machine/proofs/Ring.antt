@@ -20,10 +20,11 @@ pub record Arrays (q : Queue) : Type 0 where
 pub arrays-put : (q : Queue) (j : ℕ) (p : Packet) (place count : ℕ) → Arrays q → Arrays (putSlot q j p place count)
 unfolding putSlot
 arrays-put q j p place count h = record {
-    kinds = length-set (q .kinds) j (p .kind) ∙ h .kinds;
-    a = length-set (q .a) j (p .a) ∙ h .a;
-    b = length-set (q .b) j (p .b) ∙ h .b;
-    c = length-set (q .c) j (p .c) ∙ h .c }
+  kinds = length-set (q .kinds) j (p .kind) ∙ h .kinds;
+  a = length-set (q .a) j (p .a) ∙ h .a;
+  b = length-set (q .b) j (p .b) ∙ h .b;
+  c = length-set (q .c) j (p .c) ∙ h .c;
+}
 
 pub arrays-appended : (q : Queue) (p : Packet) → Arrays q → Arrays (appended q p)
 unfolding appended
@@ -36,26 +37,32 @@ arrays-taken q h = arrays-put q (q .place) zeroPacket ((q .place + 1) % slots) (
 pub slot-same : (q : Queue) (j : ℕ) (p : Packet) (place count : ℕ) → Arrays q → j < slots → slot (putSlot q j p place count) j ≡ p
 unfolding slot putSlot
 slot-same q j p place count h l =
-    simp (getD-set-same (q .kinds) j (p .kind) 0 (omega (arith, h .kinds)),
-    getD-set-same (q .a) j (p .a) 0 (omega (arith, h .a)),
-    getD-set-same (q .b) j (p .b) 0 (omega (arith, h .b)),
-    getD-set-same (q .c) j (p .c) 0 (omega (arith, h .c)))
+    simp (
+      getD-set-same (q .kinds) j (p .kind) 0 (omega (arith, h .kinds)),
+      getD-set-same (q .a) j (p .a) 0 (omega (arith, h .a)),
+      getD-set-same (q .b) j (p .b) 0 (omega (arith, h .b)),
+      getD-set-same (q .c) j (p .c) 0 (omega (arith, h .c)),
+    )
 
 pub slot-other : (q : Queue) (j : ℕ) (p : Packet) (place count m : ℕ) → (m ≡ j → ⊥) → slot (putSlot q j p place count) m ≡ slot q m
 unfolding slot putSlot
 slot-other q j p place count m d =
-    simp (getD-set-other (q .kinds) j m (p .kind) 0 d,
-    getD-set-other (q .a) j m (p .a) 0 d,
-    getD-set-other (q .b) j m (p .b) 0 d,
-    getD-set-other (q .c) j m (p .c) 0 d)
+    simp (
+      getD-set-other (q .kinds) j m (p .kind) 0 d,
+      getD-set-other (q .a) j m (p .a) 0 d,
+      getD-set-other (q .b) j m (p .b) 0 d,
+      getD-set-other (q .c) j m (p .c) 0 d,
+    )
 
 -- a write to a slot that is not among n from k on
 pub packets-other : (q : Queue) (j : ℕ) (p : Packet) (place count k n : ℕ) → ((r : ℕ) → r < n → (k + r) % slots ≡ j → ⊥) → packetsFrom (putSlot q j p place count) k n ≡ packetsFrom q k n
 unfolding packetsFrom
 packets-other q j p place count k zero d = refl
 packets-other q j p place count k (suc n) d =
-    rw (slot-other q j p place count (k % slots) (λ e. d 0 (omega arith) (omega arith)),
-    packets-other q j p place count (suc k) n (λ r l e. d (suc r) (omega arith) (omega arith)))
+    rw (
+      slot-other q j p place count (k % slots) (λ e. d 0 (omega arith) (omega arith)),
+      packets-other q j p place count (suc k) n (λ r l e. d (suc r) (omega arith) (omega arith)),
+    )
 
 -- one packet more at the end
 pub packets-snoc : (q : Queue) (k n : ℕ) → packetsFrom q k (suc n) ≡ packetsFrom q k n ++ (slot q ((k + n) % slots) ∷ [])

@@ -3,11 +3,11 @@ use mathlib.Core.Path.{_≡_, refl, ap, _∙_}
 use mathlib.Core.Logic.{_⊎_, inl, inr, ⊎-elim}
 use mathlib.Core.Bool.{Bool, true, false, cond, _&&_}
 use mathlib.Core.List.{List}
-use Prim.Native.Nat.{ℕ, suc, _+_, _*_, _≤_, _<_}
+use Prim.Native.Nat.{ℕ, zero, suc, _+_, _*_, _≤_, _<_}
 use native.Mathlib.Omega.{arith}
 use lib.Dec.{eqb}
 use lib.ListN.{length, getD, set, drop, length-set}
-use lib.Seq.{getD-set-same, getD-set-other, drop-set-lt}
+use lib.Seq.{getD-set-same, getD-set-other, drop-set-lt, set-getD}
 use Rattle.machine.specs.Table.{stride, header, left, right, rootCount, cellCount, state, capacity, firstFree, lastFree, tableLength, position, wordAt, putWord, putEnds, putCell, inUse, isFree}
 use borrow.Author.Tests.{eqb-true, eqb-false, not-true}
 use Rattle.machine.proofs.Range.{tested}
@@ -15,6 +15,15 @@ use Rattle.machine.proofs.Range.{tested}
 -- the place i has its five words in the table t
 pub Inside : List ℕ → ℕ → Type 0
 Inside t i = tableLength (suc i) ≤ length t
+
+-- what holds of each word of a cell
+pub each-word : (P : ℕ → Type 0) → P left → P right → P rootCount → P cellCount → P state → (k : ℕ) → k < stride → P k
+each-word P a b c d e zero l = a
+each-word P a b c d e (suc zero) l = b
+each-word P a b c d e (suc (suc zero)) l = c
+each-word P a b c d e (suc (suc (suc zero))) l = d
+each-word P a b c d e (suc (suc (suc (suc zero)))) l = e
+each-word P a b c d e (suc (suc (suc (suc (suc k))))) l = absurd (omega arith)
 
 -- lengths
 pub length-putWord : (t : List ℕ) (i k v : ℕ) → length (putWord t i k v) ≡ length t
@@ -44,6 +53,7 @@ word-put t i k v j m f hk hm = ⊎-elim here (λ (e : eqb k m ≡ false). rw e (
   where
     same : i ≡ j → k ≡ m → wordAt (putWord t i k v) j m ≡ v
     same p q = rw (← p, ← q) (word-same t i k v f hk)
+
     here : eqb k m ≡ true → wordAt (putWord t i k v) j m ≡ cond (eqb k m && eqb i j) v (wordAt t j m)
     here e =
         ⊎-elim (λ (d : eqb i j ≡ true). rw (e, d) (same (eqb-true i j d) (eqb-true k m e)))
@@ -97,3 +107,103 @@ free-not-in-use t i h = not-true (inUse t i) h
 pub not-in-use-free : (t : List ℕ) (i : ℕ) → inUse t i ≡ false → isFree t i ≡ true
 unfolding isFree
 not-in-use-free t i h = rw h
+
+-- a table of its length has room for each of its cells
+pub room : (t : List ℕ) (c i : ℕ) → tableLength c ≤ length t → i < c → Inside t i
+unfolding Inside tableLength
+room t c i f l = omega arith
+
+pub inside-put : (t : List ℕ) (i k v j : ℕ) → Inside t j → Inside (putWord t i k v) j
+unfolding Inside
+inside-put t i k v j f = rw length-putWord f
+
+-- another word of the same cell
+other-word : (t : List ℕ) (i k v m : ℕ) → k < stride → m < stride → (k ≡ m → ⊥) → wordAt (putWord t i k v) i m ≡ wordAt t i m
+other-word t i k v m hk hm d = word-other t i k v i m hk hm (λ _. d)
+
+-- a whole cell written: its five words, and another cell's
+module _ (t : List ℕ) (i l r n m s : ℕ) (f : Inside t i) where
+  abbrev t₁ : List ℕ
+  t₁ = putWord t i left l
+
+  abbrev t₂ : List ℕ
+  t₂ = putWord t₁ i right r
+
+  abbrev t₃ : List ℕ
+  t₃ = putWord t₂ i rootCount n
+
+  abbrev t₄ : List ℕ
+  t₄ = putWord t₃ i cellCount m
+
+  f₁ : Inside t₁ i
+  f₁ = inside-put t i left l i f
+
+  f₂ : Inside t₂ i
+  f₂ = inside-put t₁ i right r i f₁
+
+  f₃ : Inside t₃ i
+  f₃ = inside-put t₂ i rootCount n i f₂
+
+  pub cell-state : wordAt (putCell t i l r n m s) i state ≡ s
+  unfolding putCell
+  cell-state = word-same t₄ i state s (inside-put t₃ i cellCount m i f₃) (omega arith)
+
+  pub cell-cell : wordAt (putCell t i l r n m s) i cellCount ≡ m
+  unfolding putCell
+  cell-cell = other-word t₄ i state s cellCount (omega arith) (omega arith) (omega arith) ∙ word-same t₃ i cellCount m f₃ (omega arith)
+
+  pub cell-root : wordAt (putCell t i l r n m s) i rootCount ≡ n
+  unfolding putCell
+  cell-root =
+      other-word t₄ i state s rootCount (omega arith) (omega arith) (omega arith)
+      ∙ other-word t₃ i cellCount m rootCount (omega arith) (omega arith) (omega arith)
+      ∙ word-same t₂ i rootCount n f₂ (omega arith)
+
+  pub cell-right : wordAt (putCell t i l r n m s) i right ≡ r
+  unfolding putCell
+  cell-right =
+      other-word t₄ i state s right (omega arith) (omega arith) (omega arith)
+      ∙ other-word t₃ i cellCount m right (omega arith) (omega arith) (omega arith)
+      ∙ other-word t₂ i rootCount n right (omega arith) (omega arith) (omega arith)
+      ∙ word-same t₁ i right r f₁ (omega arith)
+
+  pub cell-left : wordAt (putCell t i l r n m s) i left ≡ l
+  unfolding putCell
+  cell-left =
+      other-word t₄ i state s left (omega arith) (omega arith) (omega arith)
+      ∙ other-word t₃ i cellCount m left (omega arith) (omega arith) (omega arith)
+      ∙ other-word t₂ i rootCount n left (omega arith) (omega arith) (omega arith)
+      ∙ other-word t₁ i right r left (omega arith) (omega arith) (omega arith)
+      ∙ word-same t i left l f (omega arith)
+
+-- what each write of a word of the cell keeps, writing the whole cell keeps
+cell-keeps : (P : List ℕ → Type 0) (t : List ℕ) (i l r n m s : ℕ) → ((u : List ℕ) (k v : ℕ) → k < stride → P u → P (putWord u i k v)) → P t → P (putCell t i l r n m s)
+unfolding putCell
+cell-keeps P t i l r n m s f h =
+    f _ state s (omega arith) (f _ cellCount m (omega arith) (f _ rootCount n (omega arith) (f _ right r (omega arith) (f t left l (omega arith) h))))
+
+pub cell-other : (t : List ℕ) (i l r n m s j k : ℕ) → k < stride → (i ≡ j → ⊥) → wordAt (putCell t i l r n m s) j k ≡ wordAt t j k
+cell-other t i l r n m s j k hk d =
+    cell-keeps (λ u. wordAt u j k ≡ wordAt t j k) t i l r n m s (λ u k′ v hk′ e. word-other u i k′ v j k hk′ hk (λ x _. d x) ∙ e) refl
+
+pub capacity-putCell : (t : List ℕ) (i l r n m s : ℕ) → capacity (putCell t i l r n m s) ≡ capacity t
+capacity-putCell t i l r n m s = cell-keeps (λ u. capacity u ≡ capacity t) t i l r n m s (λ u k v hk e. capacity-putWord u i k v ∙ e) refl
+
+pub firstFree-putCell : (t : List ℕ) (i l r n m s : ℕ) → firstFree (putCell t i l r n m s) ≡ firstFree t
+firstFree-putCell t i l r n m s = cell-keeps (λ u. firstFree u ≡ firstFree t) t i l r n m s (λ u k v hk e. firstFree-putWord u i k v ∙ e) refl
+
+pub lastFree-putCell : (t : List ℕ) (i l r n m s : ℕ) → lastFree (putCell t i l r n m s) ≡ lastFree t
+lastFree-putCell t i l r n m s = cell-keeps (λ u. lastFree u ≡ lastFree t) t i l r n m s (λ u k v hk e. lastFree-putWord u i k v ∙ e) refl
+
+pub past-putCell : (t : List ℕ) (c i l r n m s : ℕ) → i < c → drop (tableLength c) (putCell t i l r n m s) ≡ drop (tableLength c) t
+past-putCell t c i l r n m s h =
+    cell-keeps (λ u. drop (tableLength c) u ≡ drop (tableLength c) t) t i l r n m s (λ u k v hk e. past-putWord u c i k v h hk ∙ e) refl
+
+pub inside-putCell : (t : List ℕ) (i l r n m s j : ℕ) → Inside t j → Inside (putCell t i l r n m s) j
+unfolding Inside
+inside-putCell t i l r n m s j f = rw length-putCell f
+
+-- a word written by what stands there: a replace of a word by itself writes nothing new
+pub put-itself : (t : List ℕ) (i k : ℕ) → putWord t i k (wordAt t i k) ≡ t
+unfolding putWord wordAt
+put-itself t i k = set-getD t (position i k) 0

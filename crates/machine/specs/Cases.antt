@@ -109,9 +109,10 @@ named-only =
 
 abbrev protected : Case
 protected = record {
-    start = named-only;
-    calls = audit ∷ step ∷ audit ∷ step ∷ audit ∷ step ∷ [];
-    expected = sound ∷ applied 4 0 ∷ sound ∷ applied 1 0 ∷ sound ∷ idle ∷ [] }
+  start = named-only;
+  calls = audit ∷ step ∷ audit ∷ step ∷ audit ∷ step ∷ [];
+  expected = sound ∷ applied 4 0 ∷ sound ∷ applied 1 0 ∷ sound ∷ idle ∷ [];
+}
 
 -- one call on a store of one cell whose words are given, with the ends and the queue
 abbrev audits : List ℕ → Queue → Reply → Case

@@ -1,15 +1,18 @@
--- What the audit's tests S2, S3 and S4 mean, as plain facts over lists. That each test says just this is proved in proofs/.
+-- What the audit's tests S2, S3 and S4, the step's sweep and fresh mean, as plain facts over lists. That they say just this is proved in proofs/.
 use mathlib.Core.Path.{_≡_}
+use mathlib.Core.Logic.{_≢_, _↔_}
 use mathlib.Core.Bool.{true, false, cond}
-use mathlib.Core.List.{List, [], _∷_, map}
-use Prim.Native.Nat.{ℕ, suc, _+_, _≤_, _<_}
-use Rattle.machine.specs.Range.{occurrences, lastOf}
+use mathlib.Core.List.{List, [], _∷_, _++_, map}
+use Prim.Native.Nat.{ℕ, suc, _+_, _-_, _≤_, _<_}
+use lib.ListN.{length, drop}
+use Rattle.machine.specs.Range.{matching, occurrences, lastOf}
 use Rattle.machine.specs.Words.{ceiling}
-use Rattle.machine.specs.Table.{left, right, rootCount, cellCount, state, capacity, firstFree, lastFree, wordAt, isFree}
+use Rattle.machine.specs.Table.{stride, left, right, cellCount, state, capacity, firstFree, lastFree, tableLength, wordAt, inUse, isFree}
 use Rattle.machine.specs.Queue.{Packet}
-use Rattle.machine.specs.Packets.{root, plus, minus, changes, movedBy, uses}
+use Rattle.machine.specs.Packets.{uses, contains}
 use Rattle.machine.specs.Counts.{pointers}
-use Rattle.machine.specs.Audit.{undoable, undone}
+use Rattle.machine.specs.Reached.{Reached}
+use Rattle.machine.specs.Audit.{replayed, undoable, undone}
 
 -- places linked by their left words, from the number w to 0
 abbrev pub Linked : List ℕ → ℕ → List ℕ → Type 0
@@ -22,3 +25,78 @@ pub record Chain (t : List ℕ) (is : List ℕ) : Type 0 where
   pub ends : lastOf (map suc is) ≡ lastFree t
   pub once : (i : ℕ) → i < capacity t → occurrences i is ≡ cond (isFree t i) 1 0
   pub wiped : (i k : ℕ) → i < capacity t → isFree t i ≡ true → right ≤ k → k ≤ state → wordAt t i k ≡ 0
+
+-- the root counts of all cells, by place, after a packet is replayed
+unfoldable pub replayedCounts : Packet → (ℕ → ℕ) → ℕ → ℕ
+replayedCounts p counts i = replayed (suc i) p (counts i)
+
+-- S3: one stage of the replay over c cells
+pub record ReplayStage (c : ℕ) (p : Packet) (counts : ℕ → ℕ) : Type 0 where
+  pub question6 : (i : ℕ) → i < c → uses p (suc i) ≤ counts i
+  pub question9 : (i : ℕ) → i < c → replayedCounts p counts i ≤ ceiling
+
+-- all stages, oldest first
+abbrev pub Replay : ℕ → (ℕ → ℕ) → List Packet → Type 0
+Replay c counts [] = Unit {0}
+Replay c counts (p ∷ ps) = ReplayStage c p counts × Replay c (replayedCounts p counts) ps
+
+-- no more than 4,095 pointers meet one cell
+abbrev pub Within : List ℕ → Type 0
+Within t = (i : ℕ) → i < capacity t → pointers t (suc i) ≤ ceiling
+
+-- S4: the stages of the undoing, oldest first, the last one the table as it stands; v is the table before the packet p, w the one after it
+abbrev pub Stages : List ℕ → List Packet → List (List ℕ) → Type 0
+Stages t [] [] = ⊥
+Stages t [] (v ∷ []) = (v ≡ t) × Within v
+Stages t [] (v ∷ w ∷ vs) = ⊥
+Stages t (p ∷ ps) [] = ⊥
+Stages t (p ∷ ps) (v ∷ []) = ⊥
+Stages t (p ∷ ps) (v ∷ w ∷ vs) = (undoable w p ≡ true) × (v ≡ undone w p) × Within v × Stages t ps (w ∷ vs)
+
+-- S4: the stages, and the cell counts are the pointers found at the oldest
+pub record Undoing (t : List ℕ) (ps : List Packet) (oldest : List ℕ) (others : List (List ℕ)) : Type 0 where
+  pub stages : Stages t ps (oldest ∷ others)
+  pub counts : (i : ℕ) → i < capacity t → wordAt t i cellCount ≡ pointers oldest (suc i)
+
+-- each number above the one before it
+abbrev pub Ascending : List ℕ → Type 0
+Ascending [] = Unit {0}
+Ascending (i ∷ []) = Unit {0}
+Ascending (i ∷ j ∷ is) = (i < j) × Ascending (j ∷ is)
+
+-- The cells that a step frees, of a table t with the packets ps waiting: those in use that are not reached, each once, ascending.
+pub record Dead (t : List ℕ) (ps : List Packet) (dead : List ℕ) : Type 0 where
+  pub members : (i : ℕ) → (contains dead i ≡ true) ↔ ((i < capacity t) × (inUse t i ≡ true) × (Reached t ps i → ⊥))
+  pub ascending : Ascending dead
+
+-- how often the fields of the cells at these places contain x
+unfoldable pub pointersOut : List ℕ → List ℕ → ℕ → ℕ
+pointersOut t [] x = 0
+pointersOut t (i ∷ is) x = matching (wordAt t i left) x 1 + matching (wordAt t i right) x 1 + pointersOut t is x
+
+-- The sweep: what a table t becomes when the cells at the places dead are freed.
+pub record Sweep (t : List ℕ) (dead : List ℕ) (t′ : List ℕ) : Type 0 where
+  pub sameLength : length t′ ≡ length t
+  pub sameCapacity : capacity t′ ≡ capacity t
+  pub pastCells : drop (tableLength (capacity t)) t′ ≡ drop (tableLength (capacity t)) t
+  -- a freed cell's words behind left are 0
+  pub freed : (i k : ℕ) → contains dead i ≡ true → right ≤ k → k ≤ state → wordAt t′ i k ≡ 0
+  -- each pointer out of a freed cell lowers a cell count
+  pub lowered : (i : ℕ) → i < capacity t → contains dead i ≡ false → wordAt t′ i cellCount ≡ wordAt t i cellCount - pointersOut t dead (suc i)
+  -- every other word of a cell that is not freed stands, but for the left word of the chain's end
+  pub stands : (i k : ℕ) → k < stride → k ≢ cellCount → contains dead i ≡ false → (k ≡ left → suc i ≢ lastFree t) → wordAt t′ i k ≡ wordAt t i k
+  -- the freed cells join the chain at its end, in their order
+  pub joined : (is : List ℕ) → Linked t (firstFree t) is → lastOf (map suc is) ≡ lastFree t → ((i : ℕ) → occurrences i is + occurrences i dead ≤ 1)
+      → Linked t′ (firstFree t′) (is ++ dead) × (lastOf (map suc (is ++ dead)) ≡ lastFree t′)
+
+-- Fresh: what any table t becomes.
+pub record FreshTable (c : ℕ) (t t′ : List ℕ) : Type 0 where
+  pub sameLength : length t′ ≡ length t
+  pub newCapacity : capacity t′ ≡ c
+  pub newFirst : firstFree t′ ≡ 1
+  pub newLast : lastFree t′ ≡ c
+  pub pastCells : drop (tableLength c) t′ ≡ drop (tableLength c) t
+  -- each cell's left is the next cell, the last one's 0
+  pub next : (i : ℕ) → suc i < c → wordAt t′ i left ≡ suc (suc i)
+  pub end : (i : ℕ) → suc i ≡ c → wordAt t′ i left ≡ 0
+  pub zeros : (i k : ℕ) → i < c → right ≤ k → k ≤ state → wordAt t′ i k ≡ 0

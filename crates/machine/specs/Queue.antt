@@ -24,12 +24,13 @@ zeroPacket = packet 0 0 0 0
 
 abbrev pub emptyQueue : Queue
 emptyQueue = record {
-    kinds = replicate slots 0;
-    a = replicate slots 0;
-    b = replicate slots 0;
-    c = replicate slots 0;
-    place = 0;
-    count = 0 }
+  kinds = replicate slots 0;
+  a = replicate slots 0;
+  b = replicate slots 0;
+  c = replicate slots 0;
+  place = 0;
+  count = 0;
+}
 
 unfoldable pub slot : Queue → ℕ → Packet
 slot q j = packet (getD (q .kinds) j 0) (getD (q .a) j 0) (getD (q .b) j 0) (getD (q .c) j 0)
@@ -37,12 +38,13 @@ slot q j = packet (getD (q .kinds) j 0) (getD (q .a) j 0) (getD (q .b) j 0) (get
 -- the queue with the packet p in slot j, at another place and count
 unfoldable pub putSlot : Queue → ℕ → Packet → ℕ → ℕ → Queue
 putSlot q j p place count = record {
-    kinds = set (q .kinds) j (p .kind);
-    a = set (q .a) j (p .a);
-    b = set (q .b) j (p .b);
-    c = set (q .c) j (p .c);
-    place = place;
-    count = count }
+  kinds = set (q .kinds) j (p .kind);
+  a = set (q .a) j (p .a);
+  b = set (q .b) j (p .b);
+  c = set (q .c) j (p .c);
+  place = place;
+  count = count;
+}
 
 -- a new packet takes the slot that lies count places after the first, 63 followed by 0
 unfoldable pub appended : Queue → Packet → Queue

@@ -1,0 +1,116 @@
+-- Laws of lists of questions: what the first "no" says, and what holds where there is none; question 1 as plain facts.
+use mathlib.Core.Path.{_≡_, refl, sym, ap, _∙_}
+use mathlib.Core.Logic.{⊎-elim}
+use mathlib.Core.Bool.{Bool, true, false, _&&_}
+use mathlib.Core.List.{List, [], _∷_, _++_}
+use Prim.Native.Nat.{ℕ, zero, suc, _≤_, _<_}
+use native.Mathlib.Omega.{arith}
+use lib.Dec.{leb, ltb, eqb}
+use lib.ListN.{length}
+use borrow.Author.Tests.{leb-true, ltb-true, eq-eqb}
+use Rattle.machine.specs.declared.Queue.{Queue}
+use Rattle.machine.specs.Words.{mostCells}
+use Rattle.machine.specs.Table.{capacity, firstFree, lastFree, tableLength}
+use Rattle.machine.specs.Queue.{slots}
+use Rattle.machine.specs.Packets.{contains}
+use Rattle.machine.specs.Calls.{RowCall, car, cdr, cons, setLeft, setRight, up, down, Call, fresh, row, step, audit, Store}
+use Rattle.machine.specs.Questions.{Question, firstNo, refusedBy, earlyRow, early, askFree, lateRow, late, inRange}
+use Rattle.machine.specs.Promise.{numbers}
+use Rattle.machine.proofs.Range.{tested, or-left, or-right, and-first, and-second}
+
+-- no question has the number 0, so that 0 says "none"
+abbrev pub Numbered : List Question → Type 0
+Numbered [] = Unit {0}
+Numbered (k ∷ ks) = (0 < k .number) × Numbered ks
+
+abbrev pub AllYes : List Question → Type 0
+AllYes [] = Unit {0}
+AllYes (k ∷ ks) = (k .answer ≡ true) × AllYes ks
+
+firstNo-yes : (k : Question) (ks : List Question) → k .answer ≡ true → firstNo (k ∷ ks) ≡ firstNo ks
+unfolding firstNo
+firstNo-yes k ks h = rw h
+
+firstNo-no : (k : Question) (ks : List Question) → k .answer ≡ false → firstNo (k ∷ ks) ≡ k .number
+unfolding firstNo
+firstNo-no k ks h = rw h
+
+no-questions : (n : ℕ) → firstNo [] ≡ suc n → ⊥
+unfolding firstNo
+no-questions n h = omega arith
+
+-- the first "no" of two lists
+pub firstNo-append : (ks ls : List Question) (n : ℕ) → firstNo ks ≡ suc n → firstNo (ks ++ ls) ≡ suc n
+firstNo-append [] ls n h = absurd (no-questions n h)
+firstNo-append (k ∷ ks) ls n h =
+    ⊎-elim (λ e. firstNo-yes k (ks ++ ls) e ∙ firstNo-append ks ls n (sym (firstNo-yes k ks e) ∙ h))
+    (λ e. firstNo-no k (ks ++ ls) e ∙ sym (firstNo-no k ks e) ∙ h) (tested (k .answer))
+
+pub firstNo-none : (ks ls : List Question) → Numbered ks → firstNo ks ≡ 0 → firstNo (ks ++ ls) ≡ firstNo ls
+firstNo-none [] ls p h = refl
+firstNo-none (k ∷ ks) ls p h =
+    ⊎-elim (λ e. firstNo-yes k (ks ++ ls) e ∙ firstNo-none ks ls (p .1) (sym (firstNo-yes k ks e) ∙ h))
+    (λ e. absurd (omega (arith, firstNo-no k ks e, p .0))) (tested (k .answer))
+
+-- a "no" carries the number of one of the questions
+pub firstNo-number : (ks : List Question) (n : ℕ) → firstNo ks ≡ suc n → contains (numbers ks) (suc n) ≡ true
+unfolding numbers contains
+firstNo-number [] n h = absurd (no-questions n h)
+firstNo-number (k ∷ ks) n h =
+    ⊎-elim (λ e. or-right (eqb (k .number) (suc n)) (firstNo-number ks n (sym (firstNo-yes k ks e) ∙ h)))
+    (λ e. or-left (contains (numbers ks) (suc n)) (eq-eqb (k .number) (suc n) (sym (firstNo-no k ks e) ∙ h))) (tested (k .answer))
+
+pub firstNo-all : (ks : List Question) → Numbered ks → firstNo ks ≡ 0 → AllYes ks
+firstNo-all [] p h = tt
+firstNo-all (k ∷ ks) p h =
+    ⊎-elim (λ e. (e, firstNo-all ks (p .1) (sym (firstNo-yes k ks e) ∙ h))) (λ e. absurd (omega (arith, firstNo-no k ks e, p .0))) (tested (k .answer))
+
+pub firstNo-zero : (ks : List Question) → AllYes ks → firstNo ks ≡ 0
+firstNo-zero [] h = unfold firstNo in refl
+firstNo-zero (k ∷ ks) h = firstNo-yes k ks (h .0) ∙ firstNo-zero ks (h .1)
+
+pub early-numbered : (s : Store) (call : Call) → Numbered (early s call)
+unfolding early earlyRow
+early-numbered s (fresh c) = (omega arith, (omega arith, tt))
+early-numbered s (row (car x)) = (omega arith, (omega arith, (omega arith, tt)))
+early-numbered s (row (cdr x)) = (omega arith, (omega arith, (omega arith, tt)))
+early-numbered s (row (cons x y)) = (omega arith, (omega arith, tt))
+early-numbered s (row (setLeft x y)) = (omega arith, (omega arith, (omega arith, tt)))
+early-numbered s (row (setRight x y)) = (omega arith, (omega arith, (omega arith, tt)))
+early-numbered s (row (up x n)) = (omega arith, (omega arith, (omega arith, (omega arith, tt))))
+early-numbered s (row (down x n)) = (omega arith, (omega arith, (omega arith, (omega arith, tt))))
+early-numbered s step = (omega arith, (omega arith, tt))
+early-numbered s audit = (omega arith, (omega arith, tt))
+
+-- question 1 as plain facts
+pub record Shape (t : List ℕ) (q : Queue) : Type 0 where
+  pub some : 1 ≤ capacity t
+  pub most : capacity t ≤ mostCells
+  pub first : firstFree t ≤ capacity t
+  pub last : lastFree t ≤ capacity t
+  pub place : q .place < slots
+  pub count : q .count ≤ slots
+  pub room : tableLength (capacity t) ≤ length t
+
+pub shape-is : (t : List ℕ) (q : Queue) → inRange t q ≡ true → Shape t q
+unfolding inRange
+shape-is t q h =
+    let c = leb 1 (capacity t) && leb (capacity t) mostCells in
+    let f = c && leb (firstFree t) (capacity t) in
+    let l = f && leb (lastFree t) (capacity t) in
+    let p = l && ltb (q .place) slots in
+    let n = p && leb (q .count) slots in
+    let hn = and-first n (leb (tableLength (capacity t)) (length t)) h in
+    let hp = and-first p (leb (q .count) slots) hn in
+    let hl = and-first l (ltb (q .place) slots) hp in
+    let hf = and-first f (leb (lastFree t) (capacity t)) hl in
+    let hc = and-first c (leb (firstFree t) (capacity t)) hf in
+    record {
+      some = leb-true 1 (capacity t) (and-first (leb 1 (capacity t)) (leb (capacity t) mostCells) hc);
+      most = leb-true (capacity t) mostCells (and-second (leb 1 (capacity t)) (leb (capacity t) mostCells) hc);
+      first = leb-true (firstFree t) (capacity t) (and-second c (leb (firstFree t) (capacity t)) hf);
+      last = leb-true (lastFree t) (capacity t) (and-second f (leb (lastFree t) (capacity t)) hl);
+      place = ltb-true (q .place) slots (and-second l (ltb (q .place) slots) hp);
+      count = leb-true (q .count) slots (and-second p (leb (q .count) slots) hn);
+      room = leb-true (tableLength (capacity t)) (length t) (and-second n (leb (tableLength (capacity t)) (length t)) h);
+    }

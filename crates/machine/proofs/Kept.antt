@@ -1,0 +1,219 @@
+-- For every store and call the machine's own answer keeps the promise.
+use mathlib.Core.Path.{_≡_, refl, sym, ap, _∙_}
+use mathlib.Core.Logic.{⊎-elim}
+use mathlib.Core.Bool.{true}
+use mathlib.Core.List.{List, [], _∷_, _++_}
+use Prim.Native.Nat.{ℕ, zero, suc, pred, _+_, _-_, _≤_, _<_}
+use native.Mathlib.Omega.{arith}
+use lib.ListN.{length, drop, replicate, length-append, length-replicate, length-drop}
+use lib.Seq.{drop-at}
+use borrow.Author.Tests.{leb-true}
+use Rattle.machine.specs.Table.{stride, left, right, capacity, firstFree, lastFree, tableLength, putWord, putEnds, putCell}
+use Rattle.machine.specs.Queue.{Packet, waiting}
+use Rattle.machine.specs.Packets.{contains, Change, changes}
+use Rattle.machine.specs.Calls.{Call, fresh, row, step, audit, RowCall, car, cdr, cons, setLeft, setRight, up, down}
+use Rattle.machine.specs.Calls.{Reply, value, refused, idle, applied, sound, broken, Store, store, withoutFirst, written, field}
+use Rattle.machine.specs.Step.{moveCount, applyChanges, unreached, swept, cleared, Outcome, outcome, stepWith, stepFrom, stepped}
+use Rattle.machine.specs.Questions.{firstNo, earlyRow, early, late, questions, inRange, scratchEnough, xIsCell}
+use Rattle.machine.specs.Audit.{rules, auditReply, audited}
+use Rattle.machine.specs.Machine.{accepted, answered, machine}
+use Rattle.machine.specs.Promise.{Untouched, Bounded, numbers, Promise}
+use Rattle.machine.proofs.Words.{cell-place}
+use Rattle.machine.proofs.Table.{length-putWord, length-putEnds, length-putCell, capacity-putWord, capacity-putEnds, capacity-putCell, past-putWord, past-putEnds, past-putCell}
+use Rattle.machine.proofs.Moves.{length-move, capacity-move, lastFree-move, past-move}
+use Rattle.machine.proofs.Sweep.{sweeps}
+use Rattle.machine.proofs.Select.{select-places}
+use Rattle.machine.proofs.Asked.{AllYes, firstNo-append, firstNo-none, firstNo-number, firstNo-all, early-numbered, Shape, shape-is}
+
+machine-refused : (s : Store) (call : Call) (n : ℕ) → firstNo (questions s call) ≡ suc n → machine s call ≡ outcome (refused (suc n)) s
+unfolding machine answered
+machine-refused s call n h = rw h
+
+machine-accepted : (s : Store) (call : Call) → firstNo (questions s call) ≡ 0 → machine s call ≡ accepted s call
+unfolding machine answered
+machine-accepted s call h = rw h
+
+-- an accepted call does not refuse
+audit-not-refused : (k n : ℕ) → auditReply k ≡ refused n → ⊥
+unfolding auditReply
+audit-not-refused zero n h = let z : _≡_ {A = ℕ} 0 1 = cc in omega arith
+audit-not-refused (suc k) n h = let z : _≡_ {A = ℕ} 0 1 = cc in omega arith
+
+step-not-refused : (s : Store) (ps : List Packet) (n : ℕ) → stepFrom s ps .reply ≡ refused n → ⊥
+unfolding stepFrom stepWith
+step-not-refused s [] n h = let z : _≡_ {A = ℕ} 0 1 = cc in omega arith
+step-not-refused s (p ∷ ps) n h = let z : _≡_ {A = ℕ} 0 1 = cc in omega arith
+
+not-refused : (s : Store) (call : Call) (n : ℕ) → accepted s call .reply ≡ refused n → ⊥
+unfolding accepted stepped audited
+not-refused s (fresh c) n h = let z : _≡_ {A = ℕ} 0 1 = cc in omega arith
+not-refused s (row r) n h = let z : _≡_ {A = ℕ} 0 1 = cc in omega arith
+not-refused s step n h = step-not-refused s (waiting (s .queue)) n h
+not-refused s audit n h = audit-not-refused (firstNo (rules (s .table) (s .queue))) n h
+
+kept-asked : (s : Store) (call : Call) (n : ℕ) → firstNo (early s call) ≡ suc n → (machine s call .reply ≡ refused (suc n)) × (machine s call .after ≡ s)
+unfolding questions
+kept-asked s call n h =
+    let e = machine-refused s call n (firstNo-append (early s call) (late s call) n h) in
+    (ap (λ (o : Outcome). o .reply) e, ap (λ (o : Outcome). o .after) e)
+
+refused-number : {m n : ℕ} → refused m ≡ refused n → m ≡ n
+refused-number h = cc
+
+kept-refusal : (s : Store) (call : Call) (n : ℕ) → firstNo (early s call) ≡ 0 → machine s call .reply ≡ refused n → (contains (numbers (late s call)) n ≡ true) × (machine s call .after ≡ s)
+unfolding questions
+kept-refusal s call n h r = go (firstNo (late s call)) refl
+  where
+    none : firstNo (questions s call) ≡ firstNo (late s call)
+    none = firstNo-none (early s call) (late s call) (early-numbered s call) h
+
+    go : (k : ℕ) → firstNo (late s call) ≡ k → (contains (numbers (late s call)) n ≡ true) × (machine s call .after ≡ s)
+    go zero e = absurd (not-refused s call n (sym (ap (λ (o : Outcome). o .reply) (machine-accepted s call (none ∙ e))) ∙ r))
+    go (suc k) e =
+        let m = machine-refused s call k (none ∙ e) in
+        let same : suc k ≡ n = refused-number (sym (ap (λ (o : Outcome). o .reply) m) ∙ r) in
+        (rw same at (firstNo-number (late s call) k e), ap (λ (o : Outcome). o .after) m)
+
+-- a table whose length, C and words past the cells stand
+pub record Framed (t t′ : List ℕ) : Type 0 where
+  pub sameLength : length t′ ≡ length t
+  pub sameCapacity : capacity t′ ≡ capacity t
+  pub pastCells : drop (tableLength (capacity t)) t′ ≡ drop (tableLength (capacity t)) t
+
+framed-refl : (t : List ℕ) → Framed t t
+framed-refl t = record { sameLength = refl; sameCapacity = refl; pastCells = refl }
+
+framed-trans : (t u v : List ℕ) → Framed t u → Framed u v → Framed t v
+framed-trans t u v f g = record {
+  sameLength = g .sameLength ∙ f .sameLength;
+  sameCapacity = g .sameCapacity ∙ f .sameCapacity;
+  pastCells = (rw (f .sameCapacity) at (g .pastCells)) ∙ f .pastCells;
+}
+
+framed-putWord : (t : List ℕ) (i k v : ℕ) → i < capacity t → k < stride → Framed t (putWord t i k v)
+framed-putWord t i k v l m = record {
+  sameLength = length-putWord t i k v;
+  sameCapacity = capacity-putWord t i k v;
+  pastCells = past-putWord t (capacity t) i k v l m;
+}
+
+framed-new : (t : List ℕ) (f g i l r n m s : ℕ) → i < capacity t → Framed t (putCell (putEnds t f g) i l r n m s)
+framed-new t f g i l r n m s h = record {
+  sameLength = length-putCell (putEnds t f g) i l r n m s ∙ length-putEnds t f g;
+  sameCapacity = capacity-putCell (putEnds t f g) i l r n m s ∙ capacity-putEnds t f g;
+  pastCells = past-putCell (putEnds t f g) (capacity t) i l r n m s h ∙ past-putEnds t (capacity t) f g;
+}
+
+-- the questions that say "yes" before a row call is accepted make its writes lie within the cells
+x-place : (t : List ℕ) (x : ℕ) → xIsCell t x ≡ true → pred x < capacity t
+unfolding xIsCell
+x-place t x h = cell-place (capacity t) x h
+
+framed-written : (s : Store) (r : RowCall) → AllYes (early s (row r)) → Framed (s .table) (written (s .table) r)
+unfolding early earlyRow written withoutFirst
+framed-written s (car x) h = framed-refl (s .table)
+framed-written s (cdr x) h = framed-refl (s .table)
+framed-written s (cons x y) h =
+    let shape = shape-is (s .table) (s .queue) (h .0) in
+    framed-new (s .table) _ _ (pred (firstFree (s .table))) x y 1 0 1 (omega (arith, shape .first, shape .some))
+framed-written s (setLeft x y) h = framed-putWord (s .table) (pred x) left y (x-place (s .table) x (h .1 .1 .0)) (omega arith)
+framed-written s (setRight x y) h = framed-putWord (s .table) (pred x) right y (x-place (s .table) x (h .1 .1 .0)) (omega arith)
+framed-written s (up x n) h = framed-refl (s .table)
+framed-written s (down x n) h = framed-refl (s .table)
+
+pub framed-changes : (t : List ℕ) (hs : List Change) → Framed t (applyChanges t hs) × (lastFree (applyChanges t hs) ≡ lastFree t)
+unfolding applyChanges
+framed-changes t [] = (framed-refl t, refl)
+framed-changes t (h ∷ hs) =
+    let u = moveCount t (h .counter) (h .word) (h .direction) (h .amount) in
+    let rest = framed-changes u hs in (
+      framed-trans t u (applyChanges u hs) (record {
+        sameLength = length-move t (h .counter) (h .word) (h .direction) (h .amount);
+        sameCapacity = capacity-move t (h .counter) (h .word) (h .direction) (h .amount);
+        pastCells = past-move t (h .counter) (h .word) (h .direction) (h .amount);
+      }) (rest .0),
+      rest .1 ∙ lastFree-move t (h .counter) (h .word) (h .direction) (h .amount),
+    )
+
+framed-swept : (t : List ℕ) (ps : List Packet) → tableLength (capacity t) ≤ length t → lastFree t ≤ capacity t → Framed t (swept t (unreached t ps))
+unfolding unreached
+framed-swept t ps f b =
+    let w = sweeps t (unreached t ps) f (select-places (capacity t) _) b in
+    record { sameLength = w .sameLength; sameCapacity = w .sameCapacity; pastCells = w .pastCells }
+
+-- the cleared scratch
+length-cleared : (c : ℕ) (s : List ℕ) → c ≤ length s → length (cleared c s) ≡ length s
+unfolding cleared
+length-cleared c s h = simp (length-append, length-replicate, length-drop) (omega arith)
+
+drop-cleared : (c : ℕ) (s : List ℕ) → drop c (cleared c s) ≡ drop c s
+unfolding cleared
+drop-cleared c s = drop-at (replicate c 0) (drop c s) c (length-replicate c 0)
+
+untouched : (s : Store) (t : List ℕ) (q : _) (u : List ℕ) → Framed (s .table) t → length u ≡ length (s .scratch) → drop (capacity (s .table)) u ≡ drop (capacity (s .table)) (s .scratch) → Untouched s (store t q u)
+untouched s t q u f e d = record {
+  sameLength = f .sameLength;
+  sameCapacity = f .sameCapacity;
+  pastCells = f .pastCells;
+  scratchLength = e;
+  pastScratch = d;
+}
+
+unmoved : (s : Store) → Untouched s s
+unmoved s = untouched s (s .table) (s .queue) (s .scratch) (framed-refl (s .table)) refl refl
+
+scratch-room : (s : Store) → scratchEnough (s .table) (s .scratch) ≡ true → capacity (s .table) ≤ length (s .scratch)
+unfolding scratchEnough
+scratch-room s h = leb-true (capacity (s .table)) (length (s .scratch)) h
+
+untouched-step : (s : Store) (ps : List Packet) → AllYes (early s step) → Untouched s (stepFrom s ps .after)
+unfolding stepFrom stepWith early
+untouched-step s [] h = unmoved s
+untouched-step s (p ∷ ps) h =
+    let t = s .table in
+    let u = applyChanges t (changes p) in
+    let shape = shape-is t (s .queue) (h .0) in
+    let c = framed-changes t (changes p) in
+    let w = framed-swept u ps (rw (c .0 .sameCapacity, c .0 .sameLength) (shape .room)) (rw (c .1, c .0 .sameCapacity) (shape .last)) in
+    untouched s (swept u (unreached u ps)) _ (cleared (capacity u) (s .scratch)) (framed-trans t u (swept u (unreached u ps)) (c .0) w)
+    (rw (c .0 .sameCapacity) (length-cleared (capacity t) (s .scratch) (scratch-room s (h .1 .0))))
+    (rw (c .0 .sameCapacity) (drop-cleared (capacity t) (s .scratch)))
+
+bounded-accepted : (s : Store) (call : Call) → AllYes (early s call) → Bounded call s (accepted s call .after)
+unfolding accepted stepped audited early
+bounded-accepted s (fresh c) h = tt
+bounded-accepted s (row r) h = untouched s (written (s .table) r) _ (s .scratch) (framed-written s r h) refl refl
+bounded-accepted s step h = untouched-step s (waiting (s .queue)) h
+bounded-accepted s audit h =
+    untouched s (s .table) _ (cleared (capacity (s .table)) (s .scratch)) (framed-refl (s .table))
+    (length-cleared (capacity (s .table)) (s .scratch) (scratch-room s (h .1 .0))) (drop-cleared (capacity (s .table)) (s .scratch))
+
+bounded-same : (s : Store) (call : Call) → Bounded call s s
+bounded-same s (fresh c) = tt
+bounded-same s (row r) = unmoved s
+bounded-same s step = unmoved s
+bounded-same s audit = unmoved s
+
+-- where the machine accepts, the early questions say "yes"
+pub early-yes : (s : Store) (call : Call) → firstNo (questions s call) ≡ 0 → AllYes (early s call)
+unfolding questions
+early-yes s call h = firstNo-all (early s call) (early-numbered s call) (go (firstNo (early s call)) refl)
+  where
+    go : (k : ℕ) → firstNo (early s call) ≡ k → firstNo (early s call) ≡ 0
+    go zero e = e
+    go (suc k) e = absurd (omega (arith, firstNo-append (early s call) (late s call) k e))
+
+kept-bounded : (s : Store) (call : Call) → Bounded call s (machine s call .after)
+kept-bounded s call = go (firstNo (questions s call)) refl
+  where
+    go : (k : ℕ) → firstNo (questions s call) ≡ k → Bounded call s (machine s call .after)
+    go zero e = rw (machine-accepted s call e) (bounded-accepted s call (early-yes s call e))
+    go (suc k) e = rw (machine-refused s call k e) (bounded-same s call)
+
+pub kept : (s : Store) (call : Call) → Promise s call (machine s call .reply) (machine s call .after)
+kept s call = record {
+  asked = kept-asked s call;
+  refusal = kept-refusal s call;
+  exact = λ _. (refl, refl);
+  bounded = kept-bounded s call;
+}
