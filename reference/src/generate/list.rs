@@ -1,0 +1,50 @@
+//! Writes lists in the format of `reference states`.
+
+use std::io::{self, Write};
+
+use crate::call::Call;
+use crate::states::{write_call, write_store};
+use crate::store::Store;
+use crate::table::at;
+
+pub struct List<'a> {
+    pub output: &'a mut dyn Write,
+}
+
+impl List<'_> {
+    pub fn title(&mut self, text: &str) -> io::Result<()> {
+        writeln!(self.output, "# {text}")
+    }
+
+    pub fn store(&mut self, store: &Store) -> io::Result<()> {
+        write_store(&mut self.output, store)
+    }
+
+    /// A call after which the whole store is written.
+    pub fn call(&mut self, call: Call) -> io::Result<()> {
+        write_call(&mut self.output, call, false)
+    }
+
+    /// A call after which a checksum is written.
+    pub fn brief(&mut self, call: Call) -> io::Result<()> {
+        write_call(&mut self.output, call, true)
+    }
+
+    /// Audits a store and tries the questions that are answered on any store,
+    /// then a step, which is decided on sound stores only.
+    pub fn case(&mut self, title: &str, store: &Store) -> io::Result<()> {
+        self.title(title)?;
+        self.store(store)?;
+        self.call(Call::Audit)?;
+        self.brief(Call::Up(1, 0))?;
+        self.brief(Call::Cons(0, 32_767))?;
+        self.brief(Call::Cdr(0))?;
+        self.call(Call::Step)?;
+        self.call(Call::Audit)
+    }
+}
+
+/// Index of a word of a cell in the table.
+pub fn word(x: u16, part: usize) -> usize {
+    at(x) + part
+}

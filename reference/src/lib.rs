@@ -1,0 +1,15 @@
+//! The reference machine of the row controller's cell store, written from
+//! document 01 alone: table, packet queue, row calls, collector step, audit,
+//! the session program, a runner for lists of stores, and generators.
+
+pub mod audit;
+pub mod call;
+pub mod collector;
+pub mod generate;
+pub mod question;
+pub mod queue;
+pub mod row;
+pub mod session;
+pub mod states;
+pub mod store;
+pub mod table;

@@ -1,0 +1,110 @@
+//! The session program: one call a line in, one reply a line out.
+
+use std::io::{self, BufRead, ErrorKind, Write};
+
+use crate::call::{Call, Reply};
+use crate::store::Store;
+use crate::table::{length, MAX_CELLS};
+
+const MAX_LINE: usize = 80;
+
+pub fn run(input: impl BufRead, mut output: impl Write) -> io::Result<()> {
+    let mut store = Store::zeroed(length(MAX_CELLS), MAX_CELLS as usize);
+    let mut lines = Lines::new(input);
+    let mut number: u64 = 0;
+    while let Some(line) = lines.next_line()? {
+        number += 1;
+        match parse(line) {
+            Some(call) => write_reply(&mut output, number, call.perform(&mut store))?,
+            None => writeln!(output, "{number} BAD")?,
+        }
+    }
+    output.flush()
+}
+
+fn write_reply(output: &mut impl Write, line: u64, reply: Reply) -> io::Result<()> {
+    match reply {
+        Reply::Done(value) | Reply::Taken { freed: value, .. } => {
+            writeln!(output, "{line} OK {value}")
+        }
+        Reply::Refused(refusal) => writeln!(output, "{line} NO {}", refusal as u8),
+        Reply::Idle => writeln!(output, "{line} IDLE"),
+        Reply::Sound | Reply::Broken(_) => unreachable!("a session has no audit"),
+    }
+}
+
+/// The call of a line, or none where the line is bad.
+pub fn parse(line: &[u8]) -> Option<Call> {
+    if line.len() > MAX_LINE {
+        return None;
+    }
+    let mut parts = line.split(|&byte| byte == b' ');
+    let name = parts.next()?;
+    let mut operand = || parse_operand(parts.next()?);
+    let call = match name {
+        b"fresh" => Call::Fresh(operand()?),
+        b"car" => Call::Car(operand()?),
+        b"cdr" => Call::Cdr(operand()?),
+        b"cons" => Call::Cons(operand()?, operand()?),
+        b"setl" => Call::ReplaceLeft(operand()?, operand()?),
+        b"setr" => Call::ReplaceRight(operand()?, operand()?),
+        b"up" => Call::Up(operand()?, operand()?),
+        b"down" => Call::Down(operand()?, operand()?),
+        b"step" => Call::Step,
+        _ => return None,
+    };
+    parts.next().is_none().then_some(call)
+}
+
+/// A number from 0 to 65,535 in base ten without leading zeros.
+fn parse_operand(digits: &[u8]) -> Option<u16> {
+    if digits.is_empty() || (digits.len() > 1 && digits[0] == b'0') {
+        return None;
+    }
+    digits.iter().try_fold(0u16, |value, &byte| {
+        let digit = byte.is_ascii_digit().then(|| byte - b'0')?;
+        value.checked_mul(10)?.checked_add(u16::from(digit))
+    })
+}
+
+/// Lines of any length, of which only as much is kept as tells that a line is
+/// too long.
+struct Lines<R> {
+    input: R,
+    line: Vec<u8>,
+}
+
+impl<R: BufRead> Lines<R> {
+    fn new(input: R) -> Self {
+        Lines {
+            input,
+            line: Vec::with_capacity(MAX_LINE + 1),
+        }
+    }
+
+    /// The next line without its line feed, which the last one may lack.
+    fn next_line(&mut self) -> io::Result<Option<&[u8]>> {
+        self.line.clear();
+        let mut started = false;
+        loop {
+            let buffer = match self.input.fill_buf() {
+                Ok(buffer) => buffer,
+                Err(error) if error.kind() == ErrorKind::Interrupted => continue,
+                Err(error) => return Err(error),
+            };
+            if buffer.is_empty() {
+                return Ok(started.then_some(&self.line));
+            }
+            started = true;
+            let feed = buffer.iter().position(|&byte| byte == b'\n');
+            let part = &buffer[..feed.unwrap_or(buffer.len())];
+            let room = MAX_LINE + 1 - self.line.len();
+            self.line.extend_from_slice(&part[..part.len().min(room)]);
+            let used = part.len() + usize::from(feed.is_some());
+            self.input.consume(used);
+            if feed.is_some() {
+                return Ok(Some(&self.line));
+            }
+        }
+    }
+}
