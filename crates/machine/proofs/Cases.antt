@@ -15,14 +15,14 @@ use Rattle.machine.specs.Machine.{accepted, answered, machine, run, repl
 use Rattle.machine.specs.Cases.{K-table, More-cases}
 
 pub K : K-table
-unfolding every exists total select tabulate matching occurrences everyOf lastOf isNil isCell isAtom isLegal capacity firstFree lastFree tableLength position wordAt putWord putEnds putCell inUse isFree slot putSlot appended taken packetsFrom waiting kindOf changesOf changes namesOf names usesOf uses movedBy waitingChange contains isNamed heldAtLeast heldAtMost pointersFrom pointers isRoot pointsTo marked spread marks reachedBy reached field packetOf withoutFirst written valueOf chained freshTable moveCount applyChanges unreached lowerPointers join joinAll swept cleared stepWith stepFrom stepped firstNo inRange longEnough scratchEnough cellsInRange numberInRange wordsLegal xIsCell heldEnough slotEmpty cellFree heldWithin pointersWithin earlyRow early askFree lateRow late questions accepted answered machine run replies
+unfolding every exists total select tabulate matching occurrences everyOf lastOf isNil isCell isAtom isLegal capacity firstFree lastFree position wordAt putWord putEnds putCell inUse isFree slot putSlot appended taken packetsFrom waiting kindOf changesOf changes namesOf names usesOf uses movedBy waitingChange contains isNamed heldAtLeast heldAtMost pointersFrom pointers isRoot pointsTo marked spread marks reachedBy reached field packetOf withoutFirst written valueOf chained freshTable moveCount applyChanges unreached lowerPointers join joinAll swept cleared stepWith stepFrom stepped firstNo inRange longEnough scratchEnough cellsInRange numberInRange wordsLegal xIsCell heldEnough slotEmpty cellFree heldWithin pointersWithin earlyRow early askFree lateRow late questions accepted answered machine run replies
 K = record {
   replies = (refl, (refl, (refl, (refl, (refl, (refl, (refl, (refl, (refl, (refl, (refl, tt)))))))))));
   K1-ends = refl;
 }
 
 pub more : More-cases
-unfolding every exists total select tabulate matching occurrences everyOf lastOf isNil isCell isAtom isLegal capacity firstFree lastFree tableLength position wordAt putWord putEnds putCell inUse isFree slot putSlot appended taken packetsFrom waiting kindOf changesOf changes namesOf names usesOf uses movedBy waitingChange contains isNamed heldAtLeast heldAtMost pointersFrom pointers isRoot pointsTo marked spread marks reachedBy reached field packetOf withoutFirst written valueOf chained freshTable moveCount applyChanges unreached lowerPointers join joinAll swept cleared stepWith stepFrom stepped firstNo inRange longEnough scratchEnough cellsInRange numberInRange wordsLegal xIsCell heldEnough slotEmpty cellFree heldWithin pointersWithin earlyRow early askFree lateRow late questions fieldSound cellSound cellsSound walk freeChain laidOut metOnce chainSound isZeroPacket otherSlotsZero wordsOfKind packetLegal namesInUse packetsLegal replayed replays packetsSound undoableOf undoneOf undoable undone before undoes pointersSound allReached rules auditReply audited accepted answered machine run replies
+unfolding every exists total select tabulate matching occurrences everyOf lastOf isNil isCell isAtom isLegal capacity firstFree lastFree position wordAt putWord putEnds putCell inUse isFree slot putSlot appended taken packetsFrom waiting kindOf changesOf changes namesOf names usesOf uses movedBy waitingChange contains isNamed heldAtLeast heldAtMost pointersFrom pointers isRoot pointsTo marked spread marks reachedBy reached field packetOf withoutFirst written valueOf chained freshTable moveCount applyChanges unreached lowerPointers join joinAll swept cleared stepWith stepFrom stepped firstNo inRange longEnough scratchEnough cellsInRange numberInRange wordsLegal xIsCell heldEnough slotEmpty cellFree heldWithin pointersWithin earlyRow early askFree lateRow late questions fieldSound cellSound cellsSound walk freeChain laidOut metOnce chainSound isZeroPacket otherSlotsZero wordsOfKind packetLegal namesInUse packetsLegal replayed replays packetsSound undoableOf undoneOf undoable undone before undoes pointersSound allReached rules auditReply audited accepted answered machine run replies
 more = record {
   replies = (refl, (refl, (refl, (refl, (refl, (refl, (refl, (refl, (refl, (refl, (refl, tt)))))))))));
   detach-ends = refl;

@@ -84,7 +84,6 @@ zero-is c i zero l = absurd (not-suc-le-zero l)
 zero-is c i (suc k) l = refl
 
 three : (c : ℕ) (t : List ℕ) → tableLength c ≤ length t → 2 < length t
-unfolding tableLength
 three c t f = omega arith
 
 capacity-set : (c : ℕ) (t : List ℕ) → 2 < length t → capacity (set t 0 c) ≡ c
@@ -92,7 +91,6 @@ unfolding capacity
 capacity-set c t l = getD-set-same t 0 c 0 (omega arith)
 
 past-set : (c : ℕ) (t : List ℕ) → drop (tableLength c) (set t 0 c) ≡ drop (tableLength c) t
-unfolding tableLength
 past-set c t = drop-set-lt (header + stride * c) t 0 c (omega arith)
 
 pub fresh-is : (c : ℕ) (t : List ℕ) → tableLength c ≤ length t → FreshTable c t (freshTable c t)

@@ -172,7 +172,6 @@ module _ (t : List ℕ) (i : ℕ) (f : tableLength (capacity t) ≤ length t) (l
   inside = room t (capacity t) i f l
 
   long : 2 < length t
-  unfolding tableLength
   long = omega arith
 
   wipe-zero : (k : ℕ) → k < stride → wordAt wipe i k ≡ 0

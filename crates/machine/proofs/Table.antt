@@ -40,7 +40,7 @@ length-putCell t i l r n m s = simp length-putWord
 
 -- what is read where it was written, and elsewhere
 pub word-same : (t : List ℕ) (i k v : ℕ) → Inside t i → k < stride → wordAt (putWord t i k v) i k ≡ v
-unfolding wordAt putWord position Inside tableLength
+unfolding wordAt putWord position Inside
 word-same t i k v f hk = getD-set-same t (header + stride * i + k) v 0 (omega arith)
 
 pub word-other : (t : List ℕ) (i k v j m : ℕ) → k < stride → m < stride → (i ≡ j → k ≡ m → ⊥) → wordAt (putWord t i k v) j m ≡ wordAt t j m
@@ -92,11 +92,11 @@ lastFree-putEnds t f l h = getD-set-same (set t 1 f) 2 l 0 (simp length-set h)
 
 -- words past the cells stand
 pub past-putWord : (t : List ℕ) (c i k v : ℕ) → i < c → k < stride → drop (tableLength c) (putWord t i k v) ≡ drop (tableLength c) t
-unfolding putWord position tableLength
+unfolding putWord position
 past-putWord t c i k v h hk = drop-set-lt (header + stride * c) t (header + stride * i + k) v (omega arith)
 
 pub past-putEnds : (t : List ℕ) (c f l : ℕ) → drop (tableLength c) (putEnds t f l) ≡ drop (tableLength c) t
-unfolding putEnds tableLength
+unfolding putEnds
 past-putEnds t c f l = drop-set-lt (header + stride * c) (set t 1 f) 2 l (omega arith) ∙ drop-set-lt (header + stride * c) t 1 f (omega arith)
 
 -- free and in use
@@ -110,7 +110,7 @@ not-in-use-free t i h = rw h
 
 -- a table of its length has room for each of its cells
 pub room : (t : List ℕ) (c i : ℕ) → tableLength c ≤ length t → i < c → Inside t i
-unfolding Inside tableLength
+unfolding Inside
 room t c i f l = omega arith
 
 pub inside-put : (t : List ℕ) (i k v j : ℕ) → Inside t j → Inside (putWord t i k v) j

@@ -40,7 +40,7 @@ unfoldable pub lastFree : List ℕ → ℕ
 lastFree t = getD t 2 0
 
 -- how many words a table of c cells needs
-unfoldable pub tableLength : ℕ → ℕ
+abbrev pub tableLength : ℕ → ℕ
 tableLength c = header + stride * c
 
 -- where word k of the cell at place i stands

@@ -1,0 +1,38 @@
+use borrow.Author.Needs.{needs}
+use Rattle.machine.specs.Table.{putCell}
+use Rattle.cells.proofs.set_cell.Statement.{statement}
+use Rattle.cells.proofs.set_cell.Tie as tie
+
+put-word-requires : tie.Need-put-word-requires
+put-word-requires c κs = search needs
+
+put-word-requires-2 : tie.Need-put-word-requires-2
+put-word-requires-2 c κs = search needs
+
+put-word-requires-3 : tie.Need-put-word-requires-3
+put-word-requires-3 c κs = search needs
+
+put-word-requires-4 : tie.Need-put-word-requires-4
+put-word-requires-4 c κs = search needs
+
+put-word-requires-5 : tie.Need-put-word-requires-5
+put-word-requires-5 c κs = search needs
+
+same-length : tie.Need-same-length
+same-length c = search needs
+
+returns : tie.Need-returns
+unfolding putCell
+returns c = cc
+
+pub set-cell-spec : {M : Type 1} → statement M
+set-cell-spec =
+    tie.close
+    (tie.spec
+    put-word-requires
+    put-word-requires-2
+    put-word-requires-3
+    put-word-requires-4
+    put-word-requires-5
+    same-length
+    returns)

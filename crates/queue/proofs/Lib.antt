@@ -1,0 +1,2 @@
+-- Laws of the sums of waiting changes.
+pub mod Totals

@@ -1,0 +1,58 @@
+use borrow.Author.Needs.{needs}
+use Rattle.machine.specs.Queue.{appended, putSlot}
+use Rattle.queue.proofs.append.Statement.{statement}
+use Rattle.queue.proofs.append.Tie as tie
+
+add-j : tie.Need-add-j
+add-j c = search needs
+
+cast-j : tie.Need-cast-j
+cast-j c = search needs
+
+mul-next : tie.Need-mul-next
+mul-next c = search needs
+
+element-write-next : tie.Need-element-write-next
+element-write-next c = search needs
+
+mul-next-2 : tie.Need-mul-next-2
+mul-next-2 c = search needs
+
+element-write-next-2 : tie.Need-element-write-next-2
+element-write-next-2 c = search needs
+
+mul-next-3 : tie.Need-mul-next-3
+mul-next-3 c = search needs
+
+element-write-next-3 : tie.Need-element-write-next-3
+element-write-next-3 c = search needs
+
+mul-next-4 : tie.Need-mul-next-4
+mul-next-4 c = search needs
+
+element-write-next-4 : tie.Need-element-write-next-4
+element-write-next-4 c = search needs
+
+add-next : tie.Need-add-next
+add-next c = search needs
+
+returns : tie.Need-returns
+unfolding appended putSlot
+returns c = search needs
+
+pub append-spec : {M : Type 1} → statement M
+append-spec =
+    tie.close
+    (tie.spec
+    add-j
+    cast-j
+    mul-next
+    element-write-next
+    mul-next-2
+    element-write-next-2
+    mul-next-3
+    element-write-next-3
+    mul-next-4
+    element-write-next-4
+    add-next
+    returns)

@@ -1,0 +1,96 @@
+use mathlib.Core.Path.{_≡_}
+use Prim.Native.Nat.{_+_, _-_, _≤_, _<_}
+use native.Mathlib.Omega.{arith}
+use borrow.Author.Needs.{needs}
+use Rattle.machine.specs.Queue.{slots, slot, packetsFrom, waiting}
+use Rattle.queue.specs.Sums.{SumsOf, Bounded}
+use Rattle.queue.proofs.Totals.{sums-none, sums-more}
+use Rattle.queue.proofs.waiting_changes.Statement.{statement}
+use Rattle.queue.proofs.waiting_changes.Tie as tie
+
+abbrev Inv-loop : tie.InvT-loop
+Inv-loop x queue place count s₀ i₀ s i =
+    (i ≤ count) × (count ≤ slots) × (place < slots) × SumsOf (packetsFrom queue place i) x s × Bounded i s
+
+abbrev μ-loop : tie.MeasureT-loop
+μ-loop x queue place count s₀ i₀ s i = count - i
+
+loop-holds : tie.Need-loop-holds Inv-loop μ-loop
+loop-holds c =
+    (omega arith, c .pre .1, c .pre .0, sums-none (c .args .t1) (c .args .t1 .place) (c .args .x), omega arith)
+
+add-j : tie.Need-add-j Inv-loop μ-loop
+add-j c = search needs
+
+cast-j : tie.Need-cast-j Inv-loop μ-loop
+cast-j c = search needs
+
+mul-with-changes : tie.Need-mul-with-changes Inv-loop μ-loop
+mul-with-changes c = search needs
+
+element-copy-out-with-changes : tie.Need-element-copy-out-with-changes Inv-loop μ-loop
+element-copy-out-with-changes c = search needs
+
+mul-with-changes-2 : tie.Need-mul-with-changes-2 Inv-loop μ-loop
+mul-with-changes-2 c = search needs
+
+element-copy-out-with-changes-2 : tie.Need-element-copy-out-with-changes-2 Inv-loop μ-loop
+element-copy-out-with-changes-2 c = search needs
+
+mul-with-changes-3 : tie.Need-mul-with-changes-3 Inv-loop μ-loop
+mul-with-changes-3 c = search needs
+
+element-copy-out-with-changes-3 : tie.Need-element-copy-out-with-changes-3 Inv-loop μ-loop
+element-copy-out-with-changes-3 c = search needs
+
+with-changes-requires : tie.Need-with-changes-requires Inv-loop μ-loop
+with-changes-requires c κs = search needs
+
+add-i : tie.Need-add-i Inv-loop μ-loop
+add-i c = search needs
+
+loop-less : tie.Need-loop-less Inv-loop μ-loop
+loop-less c = search needs
+
+loop-again : tie.Need-loop-again Inv-loop μ-loop
+unfolding slot
+loop-again c =
+    let l = c .before .before .before .before .before .loop in
+    let q = c .before .before .before .before .before .before .args .t1 in
+    let x = c .before .before .before .before .before .before .args .x in (
+      omega arith,
+      l .inv .1,
+      l .inv .2,
+      sums-more q (q .place) (l .i) x (l .s) (c .with-changes .result) (l .inv .3) (c .with-changes .ensures),
+      c .with-changes .ensures .few (l .i) (l .inv .4),
+    )
+
+returns : tie.Need-returns Inv-loop μ-loop
+unfolding waiting
+returns c =
+    let l = c .before .loop in
+    let q = c .before .before .args .t1 in
+    let e : l .i ≡ q .count = omega arith in
+    let b = l .inv .4 in
+    (rw e at (l .inv .3), omega arith)
+
+pub waiting-changes-spec : {M : Type 1} → statement M
+waiting-changes-spec =
+    tie.close
+    (tie.spec
+    Inv-loop
+    μ-loop
+    loop-holds
+    add-j
+    cast-j
+    mul-with-changes
+    element-copy-out-with-changes
+    mul-with-changes-2
+    element-copy-out-with-changes-2
+    mul-with-changes-3
+    element-copy-out-with-changes-3
+    with-changes-requires
+    add-i
+    loop-less
+    loop-again
+    returns)
