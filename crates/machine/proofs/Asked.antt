@@ -7,7 +7,7 @@ use Prim.Native.Nat.{ℕ, zero, suc, _≤_, _<_}
 use native.Mathlib.Omega.{arith}
 use lib.Dec.{leb, ltb, eqb}
 use lib.ListN.{length}
-use borrow.Author.Tests.{leb-true, ltb-true, eq-eqb}
+use borrow.Author.Tests.{leb-true, le-leb, ltb-true, lt-ltb, eq-eqb}
 use Rattle.machine.specs.declared.Queue.{Queue}
 use Rattle.machine.specs.Words.{mostCells}
 use Rattle.machine.specs.Table.{capacity, firstFree, lastFree, tableLength}
@@ -114,3 +114,17 @@ shape-is t q h =
       count = leb-true (q .count) slots (and-second p (leb (q .count) slots) hn);
       room = leb-true (tableLength (capacity t)) (length t) (and-second n (leb (tableLength (capacity t)) (length t)) h);
     }
+
+-- where everything but the length is within range, the length decides
+pub in-range-length : (t : List ℕ) (q : Queue) → 1 ≤ capacity t → capacity t ≤ mostCells → firstFree t ≤ capacity t → lastFree t ≤ capacity t → q .place < slots → q .count ≤ slots
+    → inRange t q ≡ leb (tableLength (capacity t)) (length t)
+unfolding inRange
+in-range-length t q a b c d e f =
+    simp (le-leb 1 (capacity t) a, le-leb (capacity t) mostCells b, le-leb (firstFree t) (capacity t) c, le-leb (lastFree t) (capacity t) d, lt-ltb (q .place) slots e, le-leb (q .count) slots f)
+
+pub shape-test : (t : List ℕ) (q : Queue) → Shape t q → inRange t q ≡ true
+shape-test t q s =
+    in-range-length t q (s .some) (s .most) (s .first) (s .last) (s .place) (s .count) ∙ le-leb (tableLength (capacity t)) (length t) (s .room)
+
+pub not-in-range : (t : List ℕ) (q : Queue) → (Shape t q → ⊥) → inRange t q ≡ false
+not-in-range t q f = ⊎-elim (λ e. absurd (f (shape-is t q e))) (λ e. e) (tested (inRange t q))
