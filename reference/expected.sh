@@ -31,6 +31,13 @@ make() {
             "$reference" "$kind" <"$input" || return 1
         done
         ;;
+    annotate)
+        codes=$1
+        shift
+        for input in "$@"; do
+            "$reference" annotate "$codes" <"$input" || return 1
+        done
+        ;;
     join) cat "$@" ;;
     *)
         echo "expected.txt: no such kind: $kind" >&2

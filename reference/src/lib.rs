@@ -2,9 +2,11 @@
 //! document 01 alone: table, packet queue, row calls, collector step, audit,
 //! the session program, a runner for lists of stores, and generators.
 
+pub mod annotate;
 pub mod audit;
 pub mod call;
 pub mod collector;
+pub mod format;
 pub mod generate;
 pub mod question;
 pub mod queue;

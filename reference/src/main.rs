@@ -1,9 +1,10 @@
 use std::io::{self, BufReader, BufWriter};
 use std::process::ExitCode;
 
+use reference::annotate::{self, Codes};
 use reference::{generate, session, states};
 
-const USAGE: &str = "usage: reference session | states | generate SEED ...";
+const USAGE: &str = "usage: reference session | states | annotate [CODES] | generate SEED ...";
 const BUFFER: usize = 1 << 16;
 
 fn main() -> ExitCode {
@@ -14,8 +15,13 @@ fn main() -> ExitCode {
     let result = match arguments.as_slice() {
         ["session"] => session::run(input, output),
         ["states"] => states::run(input, output),
+        ["annotate"] => annotate::run(Codes::ALL, input, output),
+        ["annotate", codes] => match Codes::parse(codes) {
+            Some(codes) => annotate::run(codes, input, output),
+            None => Err(usage("CODES are codes 0 to 9 and ranges, such as 0-7,9")),
+        },
         ["generate", rest @ ..] => generate::run(rest, output),
-        _ => Err(io::Error::new(io::ErrorKind::InvalidInput, USAGE)),
+        _ => Err(usage(USAGE)),
     };
     match result {
         Ok(()) => ExitCode::SUCCESS,
@@ -24,4 +30,8 @@ fn main() -> ExitCode {
             ExitCode::from(2)
         }
     }
+}
+
+fn usage(what: &str) -> io::Error {
+    io::Error::new(io::ErrorKind::InvalidInput, what)
 }

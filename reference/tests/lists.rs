@@ -3,6 +3,10 @@
 
 mod slow;
 
+use std::fs;
+use std::path::Path;
+
+use reference::annotate::{self, Codes};
 use reference::call::{Call, Reply};
 use reference::generate::rng::Rng;
 use reference::generate::{write_list, LISTS};
@@ -19,6 +23,13 @@ fn list(name: &str, seed: u64, cases: usize) -> String {
 fn fast_output(list: &str) -> String {
     let mut output = Vec::new();
     states::run(list.as_bytes(), &mut output).unwrap();
+    String::from_utf8(output).unwrap()
+}
+
+fn annotated(list: &str, codes: &str) -> String {
+    let mut output = Vec::new();
+    let codes = Codes::parse(codes).unwrap();
+    annotate::run(codes, list.as_bytes(), &mut output).unwrap();
     String::from_utf8(output).unwrap()
 }
 
@@ -138,13 +149,14 @@ fn slow_output(list: &str) -> String {
                     store.queue.c[slot[0]] = slot[4] as u16;
                 }
             }
-            "C" | "B" => {
+            "C" | "B" | "U" => {
                 let call = call(numbers[0], numbers[1] as u16, numbers[2] as u16);
                 undecided = undecided || is_undecided(&store, call);
                 if undecided {
                     output += &format!("{line} UNDECIDED\n");
                     continue;
                 }
+                assert_ne!(letter, "U", "{line}");
                 let reply = match slow::perform(&mut store, call) {
                     Reply::Done(value) => format!("OK {value}"),
                     Reply::Refused(refusal) => format!("NO {}", refusal as u8),
@@ -167,7 +179,10 @@ fn slow_output(list: &str) -> String {
 }
 
 fn assert_same(name: &str, list: &str) {
-    let (fast, slow) = (fast_output(list), slow_output(list));
+    assert_same_text(name, &fast_output(list), &slow_output(list));
+}
+
+fn assert_same_text(name: &str, fast: &str, slow: &str) {
     for (i, (fast, slow)) in fast.lines().zip(slow.lines()).enumerate() {
         assert_eq!(fast, slow, "{name}, output line {}", i + 1);
     }
@@ -240,7 +255,146 @@ fn malformed_lists_are_errors() {
         "C 10 0 0",
         "Q 0 0 1 64 0 0 0 0",
         "C 1 2",
+        "U 9 0 0",
+        "T 8 1 8 0\nU 0 1 0",
+        "T 8 2 3 1 5 0\nU 3 0 0",
     ] {
         assert!(states::run(list.as_bytes(), Vec::new()).is_err(), "{list}");
+    }
+}
+
+/// A call is marked where its answer is `UNDECIDED`; the rest stays.
+#[test]
+fn annotated_lists_give_the_same_answers() {
+    for name in LISTS {
+        if name == "operands" || name == "large" {
+            continue;
+        }
+        let list = list(name, 13, 40);
+        let marked = annotated(&list, "0-9");
+        let mut expected = String::new();
+        for line in fast_output(&list).lines() {
+            if line.ends_with(" UNDECIDED") {
+                expected += &format!("U{}\n", &line[1..]);
+            } else {
+                expected += &format!("{line}\n");
+            }
+        }
+        assert_same_text(name, &fast_output(&marked), &expected);
+        assert_eq!(annotated(&marked, "0-9"), marked, "{name}");
+        let unmarked = |text: &str| -> Vec<String> {
+            let lines = text.lines().filter(|line| !line.starts_with('#'));
+            lines.map(|line| line.replace(['B', 'U'], "C")).collect()
+        };
+        assert_eq!(unmarked(&marked), unmarked(&list), "{name}");
+    }
+}
+
+/// Calls are left out before the others are marked.
+#[test]
+fn annotation_goes_by_the_calls_kept() {
+    for (codes, kept) in [("0-7", "01234567"), ("8,0-2", "0128"), ("9", "9")] {
+        for name in ["mutants", "garbage", "wrecks", "snapshots", "question1"] {
+            let list = list(name, 14, 40);
+            let is_kept = |line: &&str| match line.as_bytes() {
+                [b'C' | b'B', b' ', code, ..] => kept.as_bytes().contains(code),
+                _ => true,
+            };
+            let lines: Vec<&str> = list.lines().filter(is_kept).collect();
+            let expected = annotated(&(lines.join("\n") + "\n"), "0-9");
+            assert_eq!(annotated(&list, codes), expected, "{name} {codes}");
+        }
+    }
+    // Without the step, which document 01 doesn't decide, fresh is decided.
+    let list = "T 8 2 3 1 5 2\nS 1 1 1 0\nB 8 0 0\nC 0 1 0\n";
+    let all = "T 8 2 3 1 5 2\nS 1 1 1 0\nU 8 0 0\nU 0 1 0\n";
+    assert_eq!(annotated(list, "0-9"), all);
+    let kept = "T 8 2 3 1 5 2\nS 1 1 1 0\nC 0 1 0\n";
+    assert_eq!(annotated(list, "0-7"), kept);
+    assert!(annotate::run(Codes::parse("0-7").unwrap(), all.as_bytes(), Vec::new()).is_err());
+    assert_eq!(fast_output(all), "U 8 0 0 UNDECIDED\nU 0 1 0 UNDECIDED\n");
+}
+
+#[test]
+fn annotated_lines_are_canonical() {
+    let list = "# title\n T  8 2 1 1\n7 00\nQ 0 0 0\n\nW 007 0 C 1 2\n 5";
+    let expected = "T 8 2 1 1 7 0\nQ 0 0 0\nW 7 0\nC 1 2 5\n";
+    assert_eq!(annotated(list, "0-9"), expected);
+}
+
+#[test]
+fn codes_are_digits_and_ranges() {
+    for (text, other) in [("0-9", "0,1-8,9"), ("3", "3-3"), ("1,1,2", "1-2")] {
+        assert_eq!(Codes::parse(text), Codes::parse(other), "{text}");
+    }
+    assert_eq!(Codes::parse("0-9"), Some(Codes::ALL));
+    for text in [
+        "", "10", "0-10", "7-0", "a", "0-", "-7", "1,", "0 7", "1-2-3",
+    ] {
+        assert_eq!(Codes::parse(text), None, "{text}");
+    }
+}
+
+/// A list for a gate's program and what is expected of it, as stored.
+fn gate(name: &str) -> (String, String) {
+    let folder = Path::new(env!("CARGO_MANIFEST_DIR")).join("cases/gate");
+    let read = |end: &str| fs::read_to_string(folder.join(format!("{name}.{end}"))).unwrap();
+    (read("list"), read("out"))
+}
+
+#[test]
+fn gate_lists_give_what_is_stored() {
+    for name in ["calls", "steps", "audits"] {
+        let (list, output) = gate(name);
+        assert_same_text(name, &output, &fast_output(&list));
+    }
+}
+
+#[test]
+#[ignore = "long: half a minute"]
+fn fast_and_slow_agree_on_the_gate_lists() {
+    for name in ["calls", "steps", "audits"] {
+        let (list, output) = gate(name);
+        assert_same_text(name, &output, &slow_output(&list));
+    }
+}
+
+/// How often each reply stands in an output.
+fn count(output: &str, reply: &str) -> usize {
+    let is_it = |line: &&str| line.starts_with(['C', 'B']) && line.ends_with(reply);
+    output.lines().filter(is_it).count()
+}
+
+#[test]
+fn gate_lists_have_what_they_are_for() {
+    for (name, last) in [("calls", 7), ("steps", 8), ("audits", 9)] {
+        let (list, output) = gate(name);
+        assert!(list.len() < 1_000_000 && output.len() < 2_000_000, "{name}");
+        for line in list.lines() {
+            let (letter, rest) = line.split_once(' ').unwrap();
+            if matches!(letter, "C" | "B" | "U") {
+                let code = rest.split_once(' ').unwrap().0;
+                assert!(code.parse::<u16>().unwrap() <= last, "{name}: {line}");
+            }
+        }
+        for question in (1..=10).filter(|&question| last > 7 || question != 2) {
+            let times = count(&output, &format!(" NO {question}"));
+            assert!(times >= 10, "{name}: NO {question} {times} times");
+        }
+        assert_eq!(count(&output, " UNDECIDED"), 0, "{name}");
+        assert!(output.lines().any(|line| line.ends_with(" UNDECIDED")));
+        for cells in [1, 2, 3, 63, 64, 65, 4_096] {
+            let fresh = format!(" 0 {cells} 0 OK 0");
+            assert!(count(&output, &fresh) > 0, "{name}: fresh {cells}");
+        }
+        if last > 7 {
+            assert!(count(&output, " TAKEN 5 4096") > 0, "{name}");
+        }
+        if last > 8 {
+            for rule in 1..=5 {
+                let times = count(&output, &format!(" BROKEN {rule}"));
+                assert!(times >= 10, "{name}: BROKEN {rule} {times} times");
+            }
+        }
     }
 }

@@ -188,23 +188,40 @@ fn garble_queue(rng: &mut Rng, store: &mut Store) {
     store.queue.count = rng.word();
 }
 
+fn garble(rng: &mut Rng, store: &mut Store) {
+    let small = rng.one_in(2);
+    for word in &mut store.table {
+        *word = if small { rng.word() % 4 } else { rng.word() };
+    }
+    store.scratch.fill(rng.word());
+    garble_queue(rng, store);
+}
+
+/// Makes a store pass question 1.
+fn put_in_range(store: &mut Store, cells: u16) {
+    store.table[CELLS] = cells;
+    store.table[FIRST_FREE] %= cells + 1;
+    store.table[LAST_FREE] %= cells + 1;
+    store.queue.place %= 64;
+    store.queue.count %= 65;
+}
+
+/// Garbage that passes question 1, with some scratch over.
+pub fn garbled(rng: &mut Rng, cells: u16) -> Store {
+    let mut store = Store::zeroed(length(cells), cells as usize + rng.below(3));
+    garble(rng, &mut store);
+    put_in_range(&mut store, cells);
+    store
+}
+
 /// Garbage throughout, some of it within the range of question 1.
 pub fn garbage(rng: &mut Rng, list: &mut List, cases: usize) -> io::Result<()> {
     for _ in 0..cases {
         let cells = rng.within(1, 5);
         let mut store = Store::zeroed(length(cells) + rng.below(2), cells as usize);
-        let small = rng.one_in(2);
-        for word in &mut store.table {
-            *word = if small { rng.word() % 4 } else { rng.word() };
-        }
-        store.scratch.fill(rng.word());
-        garble_queue(rng, &mut store);
+        garble(rng, &mut store);
         if !rng.one_in(4) {
-            store.table[CELLS] = cells;
-            store.table[FIRST_FREE] %= cells + 1;
-            store.table[LAST_FREE] %= cells + 1;
-            store.queue.place %= 64;
-            store.queue.count %= 65;
+            put_in_range(&mut store, cells);
         }
         list.title("garbage")?;
         list.store(&store)?;

@@ -3,7 +3,7 @@
 use std::io::{self, Write};
 
 use crate::call::Call;
-use crate::states::{write_call, write_store};
+use crate::format::{write_call, write_store};
 use crate::store::Store;
 use crate::table::at;
 

@@ -6,8 +6,11 @@ use std::io::{self, Write};
 pub mod damaged;
 pub mod edges;
 pub mod follower;
+pub mod known;
 pub mod list;
+pub mod rings;
 pub mod rng;
+pub mod rows;
 pub mod session;
 pub mod sound;
 
@@ -38,7 +41,7 @@ pub fn run(arguments: &[&str], mut output: impl Write) -> io::Result<()> {
     output.flush()
 }
 
-pub const LISTS: [&str; 14] = [
+pub const LISTS: [&str; 19] = [
     "s1",
     "s2",
     "s3",
@@ -53,6 +56,11 @@ pub const LISTS: [&str; 14] = [
     "mutants",
     "garbage",
     "large",
+    "known",
+    "rows",
+    "ceilings",
+    "rings",
+    "wrecks",
 ];
 
 /// One list; `cases` matters only to those of random cases.
@@ -78,6 +86,11 @@ pub fn write_list(
         "mutants" => damaged::mutants(rng, list, cases),
         "garbage" => edges::garbage(rng, list, cases),
         "large" => sound::large(rng, list, cases),
+        "known" => known::known(list),
+        "rows" => rows::rows(rng, list, cases),
+        "ceilings" => rows::ceilings(rng, list),
+        "rings" => rings::rings(list),
+        "wrecks" => damaged::wrecks(rng, list, cases),
         _ => Err(usage("no such list")),
     }
 }

@@ -160,7 +160,8 @@ impl Model {
         let mut reached = start;
         loop {
             let before = reached.len();
-            for (x, cell) in &self.cells {
+            // Up and down again, so that long chains take few rounds.
+            for (x, cell) in self.cells.iter().chain(self.cells.iter().rev()) {
                 if reached.contains(x) {
                     for word in [cell.left, cell.right] {
                         if self.cells.contains_key(&word) {

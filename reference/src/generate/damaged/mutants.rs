@@ -3,6 +3,7 @@
 use std::io;
 
 use crate::call::Call;
+use crate::generate::edges;
 use crate::generate::list::List;
 use crate::generate::rng::Rng;
 use crate::generate::sound;
@@ -13,25 +14,88 @@ use crate::store::Store;
 pub fn mutants(rng: &mut Rng, list: &mut List, cases: usize) -> io::Result<()> {
     for _ in 0..cases {
         let cells = rng.within(1, 9);
-        let calls = rng.below(120);
-        let mut store = sound::random_store(rng, cells, calls).store;
-        for word in &mut store.scratch {
-            *word = rng.word();
-        }
-        for _ in 0..1 + rng.below(2) {
-            let value = match rng.below(4) {
-                0 => rng.pick(&[0, cells + 1, 4_095, 4_096, 32_767, 32_768, 65_535]),
-                1 => rng.word(),
-                _ => rng.within(0, cells),
-            };
-            mutate(rng, &mut store, value);
-        }
+        let store = mutant(rng, cells);
         list.title("mutant")?;
         list.store(&store)?;
         list.call(Call::Audit)?;
         for _ in 0..2 {
             list.brief(sound::any_call(rng, cells))?;
         }
+    }
+    Ok(())
+}
+
+fn mutant(rng: &mut Rng, cells: u16) -> Store {
+    let calls = rng.below(120);
+    let mut store = sound::random_store(rng, cells, calls).store;
+    for word in &mut store.scratch {
+        *word = rng.word();
+    }
+    for _ in 0..1 + rng.below(2) {
+        let value = match rng.below(4) {
+            0 => rng.pick(&[0, cells + 1, 4_095, 4_096, 32_767, 32_768, 65_535]),
+            1 => rng.word(),
+            _ => rng.within(0, cells),
+        };
+        mutate(rng, &mut store, value);
+    }
+    store
+}
+
+/// Mutants and garbage, audited, each with calls that questions 3 to 5 refuse
+/// on any store and then all row calls and steps on its cells, decided or not.
+pub fn wrecks(rng: &mut Rng, list: &mut List, cases: usize) -> io::Result<()> {
+    for case in 0..cases {
+        let cells = match case % 12 {
+            0..6 => [1, 2, 3, 63, 64, 65][case % 12],
+            _ => rng.within(1, 9),
+        };
+        let store = match case % 3 {
+            0 => edges::garbled(rng, cells),
+            _ => mutant(rng, cells),
+        };
+        list.title(&format!("wreck of {cells} cells"))?;
+        list.store(&store)?;
+        list.brief(Call::Audit)?;
+        let (x, y, n) = (cells, rng.within(0, cells), rng.within(1, 4_095));
+        let bad = rng.pick(&[cells + 1, 32_767]);
+        let no_cell = rng.pick(&[0, 32_768, 65_535]);
+        for call in [
+            Call::Fresh(rng.pick(&[0, 4_097])),
+            rng.pick(&[Call::Up(x, 0), Call::Down(bad, 4_096)]),
+            rng.pick(&[Call::Car(bad), Call::Cdr(bad), Call::Up(bad, n)]),
+            rng.pick(&[Call::Cons(y, bad), Call::ReplaceLeft(no_cell, bad)]),
+            rng.pick(&[
+                Call::Car(no_cell),
+                Call::Cdr(no_cell),
+                Call::Down(no_cell, n),
+            ]),
+            rng.pick(&[
+                Call::ReplaceLeft(no_cell, y),
+                Call::ReplaceRight(no_cell, y),
+            ]),
+        ] {
+            list.brief(call)?;
+        }
+        let mut calls = vec![Call::Step; 4];
+        for _ in 0..2 {
+            let (x, y, n) = (rng.within(1, cells), rng.within(0, cells), rng.within(1, 9));
+            calls.extend([
+                Call::Car(x),
+                Call::Cdr(x),
+                Call::Cons(x, y),
+                Call::Cons(y, x),
+                Call::ReplaceLeft(x, y),
+                Call::ReplaceRight(x, y),
+                Call::Up(x, n),
+                Call::Down(x, n),
+            ]);
+        }
+        while !calls.is_empty() {
+            let next = rng.below(calls.len());
+            list.brief(calls.swap_remove(next))?;
+        }
+        list.brief(Call::Fresh(cells))?;
     }
     Ok(())
 }

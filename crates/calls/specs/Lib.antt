@@ -1,0 +1,4 @@
+pub mod Early
+pub mod Tests
+pub mod Tally
+pub mod Called
