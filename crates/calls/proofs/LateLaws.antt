@@ -194,7 +194,7 @@ cons-late t q x y z rx ry same tx ty e =
     let six = two-held t (waiting q) p x y rx ry same tx ty (λ w. refl) e in
     let ten-x = word-raised t (waiting q) x rx tx p cell (1 + same) (omega (arith, matching-same x x 1 refl)) (omega arith) (λ _. omega arith) in
     let ten-y = word-raised t (waiting q) y ry ty p cell (1 + same) (omega (arith, matching-same y y 1 refl, matching-turned x y)) (omega arith) (λ _. omega arith) in
-    rw (six, ten-x, ten-y, and-true (leb (ry .cellplus + (1 + same)) (ceiling + ry .cellminus)), refused-and, refused-and)
+    rw (six, ten-x, ten-y, and-true (leb (ry .cellplus + (1 + same)) (ceiling + ry .cellminus)), refused-and (held rx (1 + same)) (held ry (1 + same)), refused-and)
 
 -- a replace in x by y that detaches d, of either kind
 pub replace-late : (t : List ℕ) (q : Queue) (n field y d x : ℕ) (ry rx : Tally) (same kept : ℕ) → kindOf n ≡ replaces field → TallyOf t (waiting q) y ry → TallyOf t (waiting q) x rx

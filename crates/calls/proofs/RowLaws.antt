@@ -82,17 +82,17 @@ module _ (t : List ℕ) (q : Queue) (r : RowCall) where
   outcome-done e = rw e
 
   -- the first "no" refuses, and nothing changes
-  pub row-refused : (n : ℕ) (f : Refusal) → n ≡ firstNo (codeQuestions t q r) → (n ≡ 0 → ⊥) → refusalNumber f ≡ n → RowCalled t q r (RowAnswer.Refused f) t q
-  row-refused n f e z h = go n refl
+  pub row-refused : (n : ℕ) (a : RowAnswer) (q′ : Queue) → n ≡ firstNo (codeQuestions t q r) → (n ≡ 0 → ⊥) → rowReply a ≡ refused n → q′ ≡ q → RowCalled t q r a t q′
+  row-refused n a q′ e z h k = go n refl
     where
-      go : (m : ℕ) → n ≡ m → RowCalled t q r (RowAnswer.Refused f) t q
-      go zero k = absurd (z k)
-      go (suc m) k =
-          let o = outcome-refused m (sym e ∙ k) in
+      go : (m : ℕ) → n ≡ m → RowCalled t q r a t q′
+      go zero d = absurd (z d)
+      go (suc m) d =
+          let o = outcome-refused m (sym e ∙ d) in
           record {
-            reply = ap refused (h ∙ k) ∙ sym (ap (λ (x : Outcome). x .reply) o);
+            reply = h ∙ ap refused d ∙ sym (ap (λ (x : Outcome). x .reply) o);
             table = sym (ap (λ (x : Outcome). x .after .table) o);
-            queue = sym (ap (λ (x : Outcome). x .after .queue) o);
+            queue = k ∙ sym (ap (λ (x : Outcome). x .after .queue) o);
           }
 
   -- and where there is none the call is done
@@ -210,3 +210,16 @@ taken-first t u v first next last x y e a b c d =
     let p : first - 1 ≡ pred (firstFree t) = omega arith in
     let n : next ≡ wordAt t (pred (firstFree t)) left = a ∙ ap (λ (i : ℕ). wordAt t i left) p in
     d ∙ ap₂ (λ (s : List ℕ) (i : ℕ). putCell s i x y 1 0 1) (c ∙ ap₂ (putEnds t) n (b ∙ ap (λ (w : ℕ). cond (eqb w 0) 0 (lastFree t)) n)) p
+
+-- a refusal leaves table and queue as they were, whatever the call
+pub refusal-keeps : (t : List ℕ) (q : Queue) (r : RowCall) (f : Refusal) (t′ : List ℕ) (q′ : Queue) → RowCalled t q r (RowAnswer.Refused f) t′ q′ → (t′ ≡ t) × (q′ ≡ q)
+refusal-keeps t q r f t′ q′ h = go (firstNo (codeQuestions t q r)) refl
+  where
+    go : (n : ℕ) → firstNo (codeQuestions t q r) ≡ n → (t′ ≡ t) × (q′ ≡ q)
+    go zero e =
+        let d : refused (refusalNumber f) ≡ value (valueOf t r) = h .reply ∙ ap (λ (x : Outcome). x .reply) (outcome-done t q r e) in
+        let z : _≡_ {A = ℕ} 0 1 = cc in
+        absurd (omega arith)
+    go (suc n) e =
+        let o = outcome-refused t q r n e in
+        (h .table ∙ ap (λ (x : Outcome). x .after .table) o, h .queue ∙ ap (λ (x : Outcome). x .after .queue) o)

@@ -26,7 +26,8 @@ ghost use Prim.Native.Nat.{_≤_};
 ghost use lib.Dec.{eqb};
 ghost use lib.ListN.{length};
 ghost use Rattle.machine.specs.Table.{right, firstFree, lastFree, tableLength};
-ghost use Rattle.machine.specs.Calls.{car, cdr, cons, setLeft, setRight, up, down, written};
+ghost use Rattle.machine.specs.Calls.{refused, car, cdr, cons, setLeft, setRight, up, down, written};
+ghost use Rattle.machine.specs.Answers.{rowReply};
 ghost use Rattle.calls.specs.Called.{readCall, replaceCall, ReplaceKind, RowCalled, FreshCalled};
 
 // A row call's answer beside the queue.
@@ -70,6 +71,17 @@ pub fn fresh(table: &mut [u16], queue: Queue, c: u16) -> FreshReply
     }
 }
 
+// The question of this number said "no": the queue goes back as it came.
+fn refused_by(number: u16, queue: Queue) -> RowReply
+    requires { ⌜ (1 ≤ number) × (number ≤ 10) ⌝ }
+    ensures { λ r. ⌜ (rowReply (r .answer) ≡ refused number) × (r .queue ≡ queue) ⌝ }
+{
+    RowReply {
+        answer: RowAnswer::Refused(refusal_of(number)),
+        queue: queue,
+    }
+}
+
 // A read of x through field k.
 fn read(table: &[u16], queue: Queue, k: usize, x: u16) -> RowReply
     requires { ⌜ k ≤ right ⌝ }
@@ -77,10 +89,7 @@ fn read(table: &[u16], queue: Queue, k: usize, x: u16) -> RowReply
 {
     let number = read_refusal(table, queue, k, x);
     if number != 0 {
-        return RowReply {
-            answer: RowAnswer::Refused(refusal_of(number)),
-            queue: queue,
-        };
+        return refused_by(number, queue);
     }
     let w = cells::field(table, (x as usize) - 1, k);
     RowReply {
@@ -137,10 +146,7 @@ pub fn cons(table: &mut [u16], queue: Queue, x: u16, y: u16) -> RowReply
 {
     let number = cons_refusal(table, queue, x, y);
     if number != 0 {
-        return RowReply {
-            answer: RowAnswer::Refused(refusal_of(number)),
-            queue: queue,
-        };
+        return refused_by(number, queue);
     }
     let first = cells::first_free(table);
     take_first(table, first, x, y);
@@ -165,10 +171,7 @@ fn replace(table: &mut [u16], queue: Queue, k: usize, kind: u16, x: u16, y: u16)
 {
     let number = replace_refusal(table, queue, k, kind, x, y);
     if number != 0 {
-        return RowReply {
-            answer: RowAnswer::Refused(refusal_of(number)),
-            queue: queue,
-        };
+        return refused_by(number, queue);
     }
     let place = (x as usize) - 1;
     let d = cells::field(table, place, k);
@@ -204,10 +207,7 @@ pub fn up(table: &[u16], queue: Queue, x: u16, n: u16) -> RowReply
 {
     let number = up_refusal(table, queue, x, n);
     if number != 0 {
-        return RowReply {
-            answer: RowAnswer::Refused(refusal_of(number)),
-            queue: queue,
-        };
+        return refused_by(number, queue);
     }
     RowReply {
         answer: RowAnswer::Done(0),
@@ -228,10 +228,7 @@ pub fn down(table: &[u16], queue: Queue, x: u16, n: u16) -> RowReply
 {
     let number = down_refusal(table, queue, x, n);
     if number != 0 {
-        return RowReply {
-            answer: RowAnswer::Refused(refusal_of(number)),
-            queue: queue,
-        };
+        return refused_by(number, queue);
     }
     RowReply {
         answer: RowAnswer::Done(0),

@@ -15,14 +15,14 @@ cons-refusal-requires c κs = search needs
 accepted : (c : tie.Else1) → Ready (c .before .before .before .before .args .table .now) (c .before .before .before .before .args .queue) (firstFree (c .before .before .before .before .args .table .now))
 accepted c = cons-ready _ _ _ _ (sym (c .before .cons-refusal .ensures) ∙ c .if1 .left)
 
-refusal-of-requires : tie.Need-refusal-of-requires
-refusal-of-requires c κs = refusal-range _ _ (cons _ _) _ (c .before .cons-refusal .ensures) (c .if1 .taken)
+refused-by-requires : tie.Need-refused-by-requires
+refused-by-requires c κs = refusal-range _ _ (cons _ _) _ (c .before .cons-refusal .ensures) (c .if1 .taken)
 
 same-length : tie.Need-same-length
 same-length c = search needs
 
 returns : tie.Need-returns
-returns c = row-refused _ _ (cons _ _) _ _ (c .before .before .cons-refusal .ensures) (c .before .if1 .taken) (c .refusal-of .ensures)
+returns c = row-refused _ _ (cons _ _) _ _ _ (c .before .before .cons-refusal .ensures) (c .before .if1 .taken) (c .refused-by .ensures .0) (c .refused-by .ensures .1)
 
 first-free-requires : tie.Need-first-free-requires
 first-free-requires c κs =
@@ -56,7 +56,7 @@ cons-spec =
     tie.close
     (tie.spec
     cons-refusal-requires
-    refusal-of-requires
+    refused-by-requires
     same-length
     returns
     first-free-requires

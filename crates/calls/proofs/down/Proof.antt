@@ -8,11 +8,11 @@ use Rattle.calls.proofs.down.Tie as tie
 down-refusal-requires : tie.Need-down-refusal-requires
 down-refusal-requires c κs = search needs
 
-refusal-of-requires : tie.Need-refusal-of-requires
-refusal-of-requires c κs = refusal-range _ _ (down _ _) _ (c .before .down-refusal .ensures) (c .if1 .taken)
+refused-by-requires : tie.Need-refused-by-requires
+refused-by-requires c κs = refusal-range _ _ (down _ _) _ (c .before .down-refusal .ensures) (c .if1 .taken)
 
 returns : tie.Need-returns
-returns c = row-refused _ _ (down _ _) _ _ (c .before .before .down-refusal .ensures) (c .before .if1 .taken) (c .refusal-of .ensures)
+returns c = row-refused _ _ (down _ _) _ _ _ (c .before .before .down-refusal .ensures) (c .before .if1 .taken) (c .refused-by .ensures .0) (c .refused-by .ensures .1)
 
 append-requires : tie.Need-append-requires
 append-requires c κs =
@@ -26,4 +26,4 @@ returns-2 c = row-done _ _ (down _ _) _ _ _ (sym (c .before .before .down-refusa
 pub down-spec : {M : Type 1} → statement M
 down-spec =
     tie.close
-    (tie.spec down-refusal-requires refusal-of-requires returns append-requires returns-2)
+    (tie.spec down-refusal-requires refused-by-requires returns append-requires returns-2)

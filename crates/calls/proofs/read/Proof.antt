@@ -16,13 +16,13 @@ read-refusal-requires c κs = search needs
 accepted : (c : tie.Else1) → Ready (c .before .before .before .args .table .now) (c .before .before .before .args .queue) (c .before .before .before .args .x)
 accepted c = read-ready _ _ (c .before .before .before .args .k) _ (c .before .before .before .pre) (sym (c .before .read-refusal .ensures) ∙ c .if1 .left)
 
-refusal-of-requires : tie.Need-refusal-of-requires
-refusal-of-requires c κs = refusal-range _ _ (readCall (c .before .before .before .args .k) (c .before .before .before .args .x)) _ (c .before .read-refusal .ensures) (c .if1 .taken)
+refused-by-requires : tie.Need-refused-by-requires
+refused-by-requires c κs = refusal-range _ _ (readCall (c .before .before .before .args .k) (c .before .before .before .args .x)) _ (c .before .read-refusal .ensures) (c .if1 .taken)
 
 returns : tie.Need-returns
 returns c =
     let i = c .before .before .before .before .args in
-    row-refused (i .table .now) (i .queue) (readCall (i .k) (i .x)) _ _ (c .before .before .read-refusal .ensures) (c .before .if1 .taken) (c .refusal-of .ensures)
+    row-refused (i .table .now) (i .queue) (readCall (i .k) (i .x)) _ _ _ (c .before .before .read-refusal .ensures) (c .before .if1 .taken) (c .refused-by .ensures .0) (c .refused-by .ensures .1)
 
 sub-field : tie.Need-sub-field
 sub-field c = accepted c .number
@@ -51,7 +51,7 @@ read-spec =
     tie.close
     (tie.spec
     read-refusal-requires
-    refusal-of-requires
+    refused-by-requires
     returns
     sub-field
     field-requires

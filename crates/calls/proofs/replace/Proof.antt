@@ -16,14 +16,14 @@ replace-refusal-requires c κs = search needs
 accepted : (c : tie.Else1) → Ready (c .before .before .before .before .args .table .now) (c .before .before .before .before .args .queue) (c .before .before .before .before .args .x)
 accepted c = replace-ready _ _ (c .before .before .before .before .args .k) (c .before .before .before .before .args .kind) _ (c .before .before .before .before .args .y) (c .before .before .before .before .pre) (sym (c .before .replace-refusal .ensures) ∙ c .if1 .left)
 
-refusal-of-requires : tie.Need-refusal-of-requires
-refusal-of-requires c κs = refusal-range _ _ (replaceCall (c .before .before .before .before .args .k) (c .before .before .before .before .args .x) (c .before .before .before .before .args .y)) _ (c .before .replace-refusal .ensures) (c .if1 .taken)
+refused-by-requires : tie.Need-refused-by-requires
+refused-by-requires c κs = refusal-range _ _ (replaceCall (c .before .before .before .before .args .k) (c .before .before .before .before .args .x) (c .before .before .before .before .args .y)) _ (c .before .replace-refusal .ensures) (c .if1 .taken)
 
 same-length : tie.Need-same-length
 same-length c = search needs
 
 returns : tie.Need-returns
-returns c = row-refused _ _ (replaceCall (c .before .before .before .before .before .args .k) (c .before .before .before .before .before .args .x) (c .before .before .before .before .before .args .y)) _ _ (c .before .before .replace-refusal .ensures) (c .before .if1 .taken) (c .refusal-of .ensures)
+returns c = row-refused _ _ (replaceCall (c .before .before .before .before .before .args .k) (c .before .before .before .before .before .args .x) (c .before .before .before .before .before .args .y)) _ _ _ (c .before .before .replace-refusal .ensures) (c .before .if1 .taken) (c .refused-by .ensures .0) (c .refused-by .ensures .1)
 
 sub-place : tie.Need-sub-place
 sub-place c = accepted c .number
@@ -62,7 +62,7 @@ replace-spec =
     tie.close
     (tie.spec
     replace-refusal-requires
-    refusal-of-requires
+    refused-by-requires
     same-length
     returns
     sub-place

@@ -8,11 +8,11 @@ use Rattle.calls.proofs.up.Tie as tie
 up-refusal-requires : tie.Need-up-refusal-requires
 up-refusal-requires c κs = search needs
 
-refusal-of-requires : tie.Need-refusal-of-requires
-refusal-of-requires c κs = refusal-range _ _ (up _ _) _ (c .before .up-refusal .ensures) (c .if1 .taken)
+refused-by-requires : tie.Need-refused-by-requires
+refused-by-requires c κs = refusal-range _ _ (up _ _) _ (c .before .up-refusal .ensures) (c .if1 .taken)
 
 returns : tie.Need-returns
-returns c = row-refused _ _ (up _ _) _ _ (c .before .before .up-refusal .ensures) (c .before .if1 .taken) (c .refusal-of .ensures)
+returns c = row-refused _ _ (up _ _) _ _ _ (c .before .before .up-refusal .ensures) (c .before .if1 .taken) (c .refused-by .ensures .0) (c .refused-by .ensures .1)
 
 append-requires : tie.Need-append-requires
 append-requires c κs =
@@ -25,4 +25,4 @@ returns-2 c = row-done _ _ (up _ _) _ _ _ (sym (c .before .before .up-refusal .e
 
 pub up-spec : {M : Type 1} → statement M
 up-spec =
-    tie.close (tie.spec up-refusal-requires refusal-of-requires returns append-requires returns-2)
+    tie.close (tie.spec up-refusal-requires refused-by-requires returns append-requires returns-2)
