@@ -1,0 +1,2 @@
+-- What is proved of the machine over lists of calls.
+pub mod Demand3
