@@ -5,3 +5,11 @@ pub mod Fits
 pub mod Undoing
 pub mod Facts
 pub mod SlotsKept
+pub mod FreshSound
+pub mod Replayed
+pub mod Appending
+pub mod RowAsked
+pub mod Unwritten
+pub mod Replacing
+pub mod Making
+pub mod RowSound

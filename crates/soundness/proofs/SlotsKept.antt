@@ -40,6 +40,20 @@ slots-appended q p l s = record { place = s .place; count = omega arith; others 
         rw (e, slot-other q ((q .place + q .count) % slots) p (q .place) (q .count + 1) ((q .place + q .count + suc j) % slots) (omega arith))
         (others-at q (s .others) (suc j) (omega arith))
 
+turn : (a m : ℕ) → ((a + 1) % slots + m) % slots ≡ (a + suc m) % slots
+turn a m = omega arith
+
+turned : (a n j : ℕ) → 0 < n → ((a + 1) % slots + (n - 1) + j) % slots ≡ (a + n + j) % slots
+turned a n j l =
+    ap (λ (m : ℕ). m % slots) (let e : (a + 1) % slots + (n - 1) + j ≡ (a + 1) % slots + (n - 1 + j) = omega arith in e)
+    ∙ turn a (n - 1 + j) ∙ ap (λ (m : ℕ). m % slots) (let e : a + suc (n - 1 + j) ≡ a + n + j = omega arith in e)
+
+whole : (a n j : ℕ) → a < slots → n ≤ slots → j ≡ slots - n → (a + n + j) % slots ≡ a
+whole a n j l m e = omega arith
+
+apart : (a n j : ℕ) → a < slots → 0 < n → j < slots - n → (a + n + j) % slots ≡ a → ⊥
+apart a n j l m k e = omega arith
+
 pub slots-taken : (q : Queue) → Arrays q → 0 < q .count → Slots q → Slots (taken q)
 unfolding taken putSlot slot-after
 slots-taken q a l s = record { place = omega arith; count = omega (arith, s .count); others = others-all (taken q) zeros }
@@ -52,13 +66,13 @@ slots-taken q a l s = record { place = omega arith; count = omega (arith, s .cou
       where
         earlier : j < slots - q .count → isZeroPacket (slot (taken q) ((place′ + (q .count - 1) + j) % slots)) ≡ true
         earlier n =
-            let e : (place′ + (q .count - 1) + j) % slots ≡ (q .place + q .count + j) % slots = omega arith in
-            rw (e, slot-other q (q .place) zeroPacket place′ (q .count - 1) ((q .place + q .count + j) % slots) (omega (arith, s .place)))
+            let e : (place′ + (q .count - 1) + j) % slots ≡ (q .place + q .count + j) % slots = turned (q .place) (q .count) j l in
+            rw (e, slot-other q (q .place) zeroPacket place′ (q .count - 1) ((q .place + q .count + j) % slots) (apart (q .place) (q .count) j (s .place) l n))
             (others-at q (s .others) j n)
 
         here : j ≡ slots - q .count → isZeroPacket (slot (taken q) ((place′ + (q .count - 1) + j) % slots)) ≡ true
         here n =
-            let e : (place′ + (q .count - 1) + j) % slots ≡ q .place = omega (arith, s .place, s .count) in
+            let e : (place′ + (q .count - 1) + j) % slots ≡ q .place = turned (q .place) (q .count) j l ∙ whole (q .place) (q .count) j (s .place) (s .count) n in
             rw (e, slot-same q (q .place) zeroPacket place′ (q .count - 1) a (s .place)) zero-packet
 
 pub slots-empty : Slots emptyQueue

@@ -242,9 +242,11 @@ holds-same c v w p s = go (kindOf (p .kind)) (p .a) (p .b) (p .c)
 pub stages-same : (c : ℕ) (v w : View) (ps : List Packet) → Same c v w → All (Placed c) ps → StagesOf c v ps → StagesOf c w ps
 stages-same c v w [] s l h = within-same c v w s h
 stages-same c v w (p ∷ ps) s l h =
-    let e = earlier-same c v w ps s in
-    (stages-same c v w ps s (l .1) (h .0), holds-same c (earlier v ps) (earlier w ps) p e (l .0) (h .1),
-    within-same c (undoView p (earlier v ps)) (undoView p (earlier w ps)) (undo-same c (earlier v ps) (earlier w ps) p e) (h .2))
+    let e = earlier-same c v w ps s in (
+      stages-same c v w ps s (l .1) (h .0),
+      holds-same c (earlier v ps) (earlier w ps) p e (l .0) (h .1),
+      within-same c (undoView p (earlier v ps)) (undoView p (earlier w ps)) (undo-same c (earlier v ps) (earlier w ps) p e) (h .2),
+    )
 
 -- one stage more behind the others
 pub stages-snoc : (c : ℕ) (v : View) (ps : List Packet) (p : Packet) → StagesOf c (undoView p v) ps → HoldsFor p v → WithinView c v → StagesOf c v (ps ++ (p ∷ []))
