@@ -13,3 +13,7 @@ pub mod Unwritten
 pub mod Replacing
 pub mod Making
 pub mod RowSound
+pub mod Taking
+pub mod Masks
+pub mod Sweeping
+pub mod StepSound
