@@ -17,3 +17,6 @@ pub mod Taking
 pub mod Masks
 pub mod Sweeping
 pub mod StepSound
+pub mod Keeps
+pub mod HoldsKept
+pub mod Theorem

@@ -92,6 +92,12 @@ module _ (t : List ℕ) (ps : List Packet) (f : Facts t ps) (new : ℕ) (rest : 
   unfolding inUse
   new-used = lt-ltb 0 (wordAt u new state) (omega (arith, cell-state ended new x y 1 0 1 inside))
 
+  -- the new cell has the root count 1, and no other root count changes
+  pub making-root : (i : ℕ) → i < capacity t → wordAt u i rootCount ≡ wordAt t i rootCount + matching (suc new) (suc i) 1
+  making-root = each-cell (λ i. i < capacity t → wordAt u i rootCount ≡ wordAt t i rootCount + matching (suc new) (suc i) 1)
+      (λ _. omega (arith, new-root, free-zero t ps f new rootCount below was-free (omega arith) (omega arith), matching-same (suc new) (suc new) 1 refl))
+      (λ i d _. omega (arith, other i rootCount (omega arith) d, matching-other (suc new) (suc i) 1 (λ e. d (omega arith))))
+
   same-use : (i : ℕ) → i ≢ new → inUse u i ≡ inUse t i
   unfolding inUse
   same-use i d = ap (ltb 0) (other i state (omega arith) d)
