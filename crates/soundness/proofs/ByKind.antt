@@ -133,23 +133,28 @@ word-applied t (h ∷ hs) j m l d =
     word-applied (moveCount t (h .counter) (h .word) (h .direction) (h .amount)) hs j m l d
     ∙ word-move t (h .counter) (h .word) (h .direction) (h .amount) j m l (d (h .counter))
 
+-- one change, of every counter of every cell
+pub count-change : (t : List ℕ) (h : Change) (k : Counter) (j : ℕ) → tableLength (capacity t) ≤ length t → j < capacity t
+    → wordAt (moveCount t (h .counter) (h .word) (h .direction) (h .amount)) j (counterWord k)
+    ≡ cond (sameCounter k (h .counter)) (shifted (h .direction) (wordAt t j (counterWord k)) (matching (h .word) (suc j) (h .amount))) (wordAt t j (counterWord k))
+count-change t h k j f l = by-counter k (h .counter)
+  where
+    by-counter : (k m : Counter) → wordAt (moveCount t m (h .word) (h .direction) (h .amount)) j (counterWord k)
+        ≡ cond (sameCounter k m) (shifted (h .direction) (wordAt t j (counterWord k)) (matching (h .word) (suc j) (h .amount))) (wordAt t j (counterWord k))
+    by-counter root root = count-move t root (h .word) (h .direction) (h .amount) f j l
+    by-counter root cell = word-move t cell (h .word) (h .direction) (h .amount) j (counterWord root) (omega arith) (omega arith)
+    by-counter cell root = word-move t root (h .word) (h .direction) (h .amount) j (counterWord cell) (omega arith) (omega arith)
+    by-counter cell cell = count-move t cell (h .word) (h .direction) (h .amount) f j l
+
 pub count-applied : (t : List ℕ) (hs : List Change) (k : Counter) (j : ℕ) → tableLength (capacity t) ≤ length t → j < capacity t
     → wordAt (applyChanges t hs) j (counterWord k) ≡ running k (suc j) hs (wordAt t j (counterWord k))
 unfolding applyChanges running
 count-applied t [] k j f l = refl
 count-applied t (h ∷ hs) k j f l =
-    count-applied u hs k j (rw (capacity-move t (h .counter) (h .word) (h .direction) (h .amount), length-move t (h .counter) (h .word) (h .direction) (h .amount)) f)
+    count-applied (moveCount t (h .counter) (h .word) (h .direction) (h .amount)) hs k j
+    (rw (capacity-move t (h .counter) (h .word) (h .direction) (h .amount), length-move t (h .counter) (h .word) (h .direction) (h .amount)) f)
     (rw (capacity-move t (h .counter) (h .word) (h .direction) (h .amount)) l)
-    ∙ ap (running k (suc j) hs) (one k (h .counter) refl)
-  where
-    u : List ℕ
-    u = moveCount t (h .counter) (h .word) (h .direction) (h .amount)
-
-    one : (k m : Counter) → h .counter ≡ m → wordAt u j (counterWord k) ≡ cond (sameCounter k m) (shifted (h .direction) (wordAt t j (counterWord k)) (matching (h .word) (suc j) (h .amount))) (wordAt t j (counterWord k))
-    one root root e = rw e (count-move t root (h .word) (h .direction) (h .amount) f j l)
-    one root cell e = rw e (word-move t cell (h .word) (h .direction) (h .amount) j 2 (omega arith) (omega arith))
-    one cell root e = rw e (word-move t root (h .word) (h .direction) (h .amount) j 3 (omega arith) (omega arith))
-    one cell cell e = rw e (count-move t cell (h .word) (h .direction) (h .amount) f j l)
+    ∙ ap (running k (suc j) hs) (count-change t h k j f l)
 
 -- a packet's changes one by one come to its raisings less its lowerings
 pub running-root : (p : Packet) (x n : ℕ) → moves root minus p x ≤ n → running root x (changes p) n ≡ n + moves root plus p x - moves root minus p x

@@ -20,3 +20,5 @@ pub mod StepSound
 pub mod Keeps
 pub mod HoldsKept
 pub mod Theorem
+pub mod Untrimmed
+pub mod CodeTests

@@ -35,6 +35,12 @@ final-sum x n (p ∷ ps) h =
       final-sum x (replayed x p n) ps (replays-rest x n p ps h),
     )
 
+-- and it stays within the ceiling
+pub final-most : (x n : ℕ) (ps : List Packet) → n ≤ ceiling → replays x n ps ≡ true → final x n ps ≤ ceiling
+unfolding final
+final-most x n [] l h = l
+final-most x n (p ∷ ps) l h = final-most x (replayed x p n) ps (leb-true (replayed x p n) ceiling (replays-bound x n p ps h)) (replays-rest x n p ps h)
+
 replays-cons : (x n : ℕ) (p : Packet) (ps : List Packet) → uses p x ≤ n → replayed x p n ≤ ceiling → replays x (replayed x p n) ps ≡ true → replays x n (p ∷ ps) ≡ true
 unfolding replays
 replays-cons x n p ps h g r = and-both (and-both (le-leb (uses p x) n h) (le-leb (replayed x p n) ceiling g)) r

@@ -260,6 +260,10 @@ unfolding earlier
 stages-within c v [] h = h
 stages-within c v (p ∷ ps) h = h .2
 
+pub stages-last : (c : ℕ) (v : View) (ps : List Packet) → StagesOf c v ps → WithinView c v
+stages-last c v [] h = h
+stages-last c v (p ∷ ps) h = stages-last c v ps (h .0)
+
 -- the pointers at the oldest stage with all waiting changes are the pointers now
 pub seen-waiting : (c : ℕ) (v : View) (ps : List Packet) (x : ℕ) → All (Placed c) ps → StagesOf c v ps
     → seen c (earlier v ps) (suc x) + waitingChange cell plus (suc x) ps ≡ seen c v (suc x) + waitingChange cell minus (suc x) ps

@@ -1,2 +1,3 @@
 -- What is proved of the machine over lists of calls.
 pub mod Demand3
+pub mod Untrimmed
