@@ -22,3 +22,4 @@ pub mod HoldsKept
 pub mod Theorem
 pub mod Untrimmed
 pub mod CodeTests
+pub mod K1

@@ -1,3 +1,4 @@
 -- What is proved of the machine over lists of calls.
 pub mod Demand3
 pub mod Untrimmed
+pub mod Links
