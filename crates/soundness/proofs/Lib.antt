@@ -23,3 +23,4 @@ pub mod Theorem
 pub mod Untrimmed
 pub mod CodeTests
 pub mod K1
+pub mod ShortcutsBite

@@ -2,3 +2,4 @@
 pub mod Demand3
 pub mod Untrimmed
 pub mod Links
+pub mod Shortcuts
