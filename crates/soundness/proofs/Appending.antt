@@ -1,32 +1,56 @@
 -- A row call appends one packet and one stage: what its write must give for the facts to hold afterwards.
 use mathlib.Core.Path.{_≡_, refl, sym, ap, _∙_}
 use mathlib.Core.Logic.{_⊎_, inl, inr, ⊎-elim}
-use mathlib.Core.Bool.{Bool, true, false, cond, _||_}
-use mathlib.Core.List.{List, [], _∷_, _++_, map}
-use Prim.Native.Nat.{ℕ, zero, suc, pred, _+_, _≤_, _<_}
+use mathlib.Core.Bool.{Bool, true, false, cond}
+use mathlib.Core.List.{List, [], _∷_, _++_}
+use Prim.Native.Nat.{ℕ, suc, _+_, _≤_, _<_}
 use native.Mathlib.Omega.{arith}
 use lib.Dec.{eqb, ltb}
 use lib.ListN.{length}
-use borrow.Author.Tests.{eqb-true, eq-eqb, ltb-true, lt-ltb}
+use borrow.Author.Tests.{eqb-true, ltb-true, lt-ltb}
 use Rattle.machine.specs.Range.{occurrences}
 use Rattle.machine.specs.Words.{ceiling, isLegal}
-use Rattle.machine.specs.Table.{stride, left, right, rootCount, cellCount, state, capacity, firstFree, lastFree, tableLength, wordAt, inUse, isFree}
+use Rattle.machine.specs.Table.{stride, left, right, rootCount, cellCount, state, capacity, firstFree, lastFree, wordAt, inUse, isFree}
 use Rattle.machine.specs.Queue.{Packet}
-use Rattle.machine.specs.Packets.{root, plus, minus, names, uses, waitingChange, contains, isNamed}
-use Rattle.machine.specs.Reached.{isRoot, pointsTo, ReachedBy, begun, onward, Reached}
+use Rattle.machine.specs.Packets.{root, cell, plus, minus, names, uses, waitingChange, contains, isNamed}
+use Rattle.machine.specs.Counts.{pointers}
+use Rattle.machine.specs.Reached.{isRoot, pointsTo, begun, onward, Reached}
 use Rattle.machine.specs.Audit.{replays}
 use Rattle.machine.specs.Facts.{Linked, Chain}
-use Rattle.machine.proofs.Range.{tested, or-true, or-left, or-right, not-both, matching-same}
-use Rattle.machine.proofs.Table.{free-not-in-use, not-in-use-free}
-use Rattle.soundness.proofs.ByKind.{unnamed-waiting, named-snoc}
-use Rattle.soundness.proofs.Views.{View, shown, Same, same-sym, undoView, HoldsFor, All, all-map, all-snoc, Placed, earlier, earlier-same, earlier-snoc, seen, seen-same, WithinView, StagesOf, stages-same, stages-snoc}
-use Rattle.soundness.proofs.Fits.{Fit, fit-grows, LegalPacket, legal-grows, legal-placed}
-use Rattle.soundness.proofs.Facts.{Facts, Live, all-placed, held-used, named-used}
+use Rattle.machine.proofs.Range.{tested, or-true, or-left, or-right, matching-same}
+use Rattle.machine.proofs.Table.{free-not-in-use}
+use Rattle.soundness.proofs.ByKind.{moves, unnamed-waiting, named-snoc}
+use Rattle.soundness.proofs.Views.{View, shown, Same, same-sym, undoView, HoldsFor, all-map, all-snoc, Placed, earlier, earlier-same, earlier-snoc, seen, seen-same, seen-undo, pointers-seen, WithinView, stages-same, stages-snoc}
+use Rattle.soundness.proofs.Fits.{Fit, LegalPacket, legal-grows}
+use Rattle.soundness.proofs.Facts.{Facts, all-placed, held-used, named-used}
+
+-- question 6: each cell is held as often as the call with the packet p names it
+abbrev pub HeldFor : List ℕ → List Packet → Packet → Type 0
+HeldFor t ps p = (i : ℕ) → i < capacity t
+    → (uses p (suc i) ≡ 0) ⊎ (waitingChange root minus (suc i) ps + uses p (suc i) ≤ wordAt t i rootCount + waitingChange root plus (suc i) ps)
+
+-- what a call with the packet p wrote: undoing it gives the view before
+pub record Wrote (t u : List ℕ) (p : Packet) : Type 0 where
+  pub sameCapacity : capacity u ≡ capacity t
+  pub placed : Placed (capacity t) p
+  pub holds : HoldsFor p (shown u)
+  pub undoes : Same (capacity t) (undoView p (shown u)) (shown t)
+
+-- so that it moved the pointers as its packet will move the cell counts
+pub wrote-pointers : (t u : List ℕ) (p : Packet) → Wrote t u p → (i : ℕ) → pointers u (suc i) + moves cell minus p (suc i) ≡ pointers t (suc i) + moves cell plus p (suc i)
+wrote-pointers t u p w i =
+    omega (
+      arith,
+      pointers-seen t i,
+      pointers-seen u i ∙ ap (λ (c : ℕ). seen c (shown u) (suc i)) (w .sameCapacity),
+      seen-same (capacity t) (undoView p (shown u)) (shown t) (suc i) (w .undoes),
+      seen-undo (capacity t) (shown u) p i (w .placed) (w .holds),
+    )
 
 -- what the table u after a call with the packet p must be, on the table t before it
 pub record Appends (t u : List ℕ) (ps : List Packet) (p : Packet) : Type 0 where
   pub sameLength : length u ≡ length t
-  pub sameCapacity : capacity u ≡ capacity t
+  pub wrote : Wrote t u p
   pub states : (i : ℕ) → i < capacity t → wordAt u i state ≤ 1
   pub roots : (i : ℕ) → i < capacity t → wordAt u i rootCount ≤ ceiling
   pub counts : (i : ℕ) → i < capacity t → wordAt u i cellCount ≡ wordAt t i cellCount
@@ -36,25 +60,23 @@ pub record Appends (t u : List ℕ) (ps : List Packet) (p : Packet) : Type 0 whe
   pub chain : Chain u free
   pub legal : LegalPacket u p
   pub replay : (i : ℕ) → i < capacity t → replays (suc i) (wordAt u i rootCount) (ps ++ (p ∷ [])) ≡ true
-  pub holds : HoldsFor p (shown u)
-  pub undoes : Same (capacity t) (undoView p (shown u)) (shown t)
   pub within : WithinView (capacity t) (shown u)
 
 pub append-facts : (t u : List ℕ) (ps : List Packet) (p : Packet) → Facts t ps → Appends t u ps p → Facts u (ps ++ (p ∷ []))
 append-facts t u ps p f a = record {
-  some = rw (a .sameCapacity) (f .some);
-  most = rw (a .sameCapacity) (f .most);
-  room = rw (a .sameCapacity, a .sameLength) (f .room);
-  states = rw (a .sameCapacity) (a .states);
-  roots = rw (a .sameCapacity) (a .roots);
-  cells = rw (a .sameCapacity) (λ (i : ℕ) (l : i < capacity t). omega (arith, a .counts i l, f .cells i l));
-  fields = rw (a .sameCapacity) (a .fields);
+  some = rw (a .wrote .sameCapacity) (f .some);
+  most = rw (a .wrote .sameCapacity) (f .most);
+  room = rw (a .wrote .sameCapacity, a .sameLength) (f .room);
+  states = rw (a .wrote .sameCapacity) (a .states);
+  roots = rw (a .wrote .sameCapacity) (a .roots);
+  cells = rw (a .wrote .sameCapacity) (λ (i : ℕ) (l : i < capacity t). omega (arith, a .counts i l, f .cells i l));
+  fields = rw (a .wrote .sameCapacity) (a .fields);
   free = a .free;
   chain = a .chain;
-  legal = all-snoc (LegalPacket u) ps p (all-map (LegalPacket t) (LegalPacket u) ps (λ r. legal-grows t u r (a .sameCapacity) (a .keeps)) (f .legal)) (a .legal);
-  replay = rw (a .sameCapacity) (a .replay);
-  stages = rw (a .sameCapacity) (stages-snoc c (shown u) ps p (stages-same c (shown t) (undoView p (shown u)) ps same (all-placed t ps f) (f .stages)) (a .holds) (a .within));
-  counts = rw (a .sameCapacity) (λ (i : ℕ) (l : i < c). a .counts i l ∙ f .counts i l
+  legal = all-snoc (LegalPacket u) ps p (all-map (LegalPacket t) (LegalPacket u) ps (λ r. legal-grows t u r (a .wrote .sameCapacity) (a .keeps)) (f .legal)) (a .legal);
+  replay = rw (a .wrote .sameCapacity) (a .replay);
+  stages = rw (a .wrote .sameCapacity) (stages-snoc c (shown u) ps p (stages-same c (shown t) (undoView p (shown u)) ps same (all-placed t ps f) (f .stages)) (a .wrote .holds) (a .within));
+  counts = rw (a .wrote .sameCapacity) (λ (i : ℕ) (l : i < c). a .counts i l ∙ f .counts i l
       ∙ seen-same c (earlier (shown t) ps) (earlier (undoView p (shown u)) ps) (suc i) (earlier-same c (shown t) (undoView p (shown u)) ps same)
       ∙ ap (λ (v : View). seen c v (suc i)) (sym (earlier-snoc (shown u) ps p)));
 }
@@ -63,7 +85,7 @@ append-facts t u ps p f a = record {
     c = capacity t
 
     same : Same c (shown t) (undoView p (shown u))
-    same = same-sym c (undoView p (shown u)) (shown t) (a .undoes)
+    same = same-sym c (undoView p (shown u)) (shown t) (a .wrote .undoes)
 
 -- a chain in a table whose free cells are the same, with the same words
 pub linked-same : (t u : List ℕ) → capacity u ≡ capacity t → (w : ℕ) (is : List ℕ) → Linked t w is
@@ -103,9 +125,7 @@ module _ (t : List ℕ) (ps : List Packet) (f : Facts t ps) where
       ⊎-elim (λ n. named-used t ps f i l n) (λ n. held-used t ps f i l (omega (arith, unnamed-waiting ps (suc i) n root plus))) (tested (isNamed ps (suc i)))
 
   -- an operand that is legal and that the call names, held as question 6 asks, is fit
-  pub operand-fit : (p : Packet) (w : ℕ)
-      → ((i : ℕ) → i < capacity t → (uses p (suc i) ≡ 0) ⊎ (waitingChange root minus (suc i) ps + uses p (suc i) ≤ wordAt t i rootCount + waitingChange root plus (suc i) ps))
-      → isLegal (capacity t) w ≡ true → ((i : ℕ) → w ≡ suc i → 1 ≤ uses p (suc i)) → Fit t w
+  pub operand-fit : (p : Packet) (w : ℕ) → HeldFor t ps p → isLegal (capacity t) w ≡ true → ((i : ℕ) → w ≡ suc i → 1 ≤ uses p (suc i)) → Fit t w
   operand-fit p w held legal named = record {
     legal = legal;
     used = λ i l e. let n = named i e in counted-used i l (⊎-elim (λ z. absurd (omega arith)) (λ z. omega arith) (held i l));

@@ -1,19 +1,19 @@
 -- What is said of a packet kind by kind: here the kinds are split, and almost nowhere else.
-use mathlib.Core.Path.{_≡_, refl, sym, ap, ap₂, _∙_}
+use mathlib.Core.Path.{_≡_, refl, ap, _∙_}
 use mathlib.Core.Logic.{_⊎_, inl, inr, ⊎-elim, _≢_}
-use mathlib.Core.Bool.{Bool, true, false, cond, _&&_, _||_, false≢true}
+use mathlib.Core.Bool.{true, false, cond, false≢true}
 use mathlib.Core.List.{List, [], _∷_, _++_}
-use Prim.Native.Nat.{ℕ, zero, suc, pred, _+_, _-_, _≤_, _<_}
+use Prim.Native.Nat.{ℕ, suc, _+_, _-_, _≤_, _<_}
 use native.Mathlib.Omega.{arith}
 use lib.Dec.{eqb}
 use lib.ListN.{length}
-use borrow.Author.Tests.{eqb-true, eqb-false}
+use borrow.Author.Tests.{eqb-false}
 use Rattle.machine.specs.Range.{matching}
-use Rattle.machine.specs.Table.{stride, left, right, capacity, tableLength, wordAt}
+use Rattle.machine.specs.Table.{stride, capacity, tableLength, wordAt}
 use Rattle.machine.specs.Queue.{Packet}
 use Rattle.machine.specs.Packets.{Kind, reads, makes, replaces, raises, lowers, unknown, kindOf, Counter, root, cell, Direction, plus, minus, Change, changesOf, changes, namesOf, names, usesOf, uses, sameCounter, movedBy, waitingChange, contains, isNamed}
 use Rattle.machine.specs.Step.{counterWord, shifted, moveCount, applyChanges}
-use Rattle.machine.proofs.Range.{tested, or-false, or-left, or-right, or-true, matching-other}
+use Rattle.machine.proofs.Range.{or-false, or-left, or-right, or-true, matching-other}
 use Rattle.machine.proofs.Moves.{length-move, capacity-move, word-move, count-move}
 
 -- a packet's changes of one counter of x, in one direction

@@ -1,12 +1,12 @@
 -- The code's tests are the paper's on a sound store, and a step that loses no root frees nothing.
-use mathlib.Core.Path.{_≡_, refl, sym, ap, _∙_}
-use mathlib.Core.Logic.{_⊎_, inl, inr, ⊎-elim, _↔_, _≢_}
+use mathlib.Core.Path.{_≡_, refl, sym, _∙_}
+use mathlib.Core.Logic.{inl, ⊎-elim, _↔_}
 use mathlib.Core.Bool.{Bool, true, false, not, _&&_}
-use mathlib.Core.List.{List, [], _∷_, _++_}
+use mathlib.Core.List.{List, [], _∷_}
 use Prim.Native.Nat.{ℕ, zero, suc, _+_, _≤_, _<_}
 use native.Mathlib.Omega.{arith}
 use Rattle.machine.specs.declared.Queue.{Queue}
-use Rattle.machine.specs.Range.{select, exists, occurrences}
+use Rattle.machine.specs.Range.{select, occurrences}
 use Rattle.machine.specs.Words.{ceiling}
 use Rattle.machine.specs.Table.{left, right, rootCount, cellCount, capacity, firstFree, wordAt, inUse, isFree}
 use Rattle.machine.specs.Queue.{Packet, waiting}
@@ -22,9 +22,9 @@ use Rattle.machine.proofs.Reached.{reached-is}
 use Rattle.soundness.proofs.ByKind.{unnamed}
 use Rattle.soundness.proofs.Views.{shown, pointers-seen, seen-waiting, stages-last}
 use Rattle.soundness.proofs.Facts.{Facts, Live, sound-facts, sound-live, all-placed}
-use Rattle.soundness.proofs.Replayed.{final, final-sum, final-most}
+use Rattle.soundness.proofs.Replayed.{final-sum, final-most}
 use Rattle.soundness.proofs.Appending.{chain-free, reached-grows}
-use Rattle.soundness.proofs.RowSound.{chain-some}
+use Rattle.soundness.proofs.RowWrote.{chain-some}
 use Rattle.soundness.proofs.Taking.{taking-capacity, taking-use, taking-fields, taking-root}
 
 module _ (t : List ℕ) (q : Queue) (s : Sound t q) where

@@ -1,13 +1,13 @@
 -- The plain facts that a sound store gives, drawn from question 1 and S1 to S5 once, and back.
 use mathlib.Core.Path.{_≡_, refl, sym, ap, _∙_}
-use mathlib.Core.Logic.{_⊎_, inl, inr, ⊎-elim}
-use mathlib.Core.Bool.{Bool, true, false, cond, _&&_, _||_}
-use mathlib.Core.List.{List, [], _∷_, _++_, map}
-use Prim.Native.Nat.{ℕ, zero, suc, pred, _+_, _≤_, _<_}
+use mathlib.Core.Logic.{⊎-elim}
+use mathlib.Core.Bool.{Bool, true, false, _&&_, _||_}
+use mathlib.Core.List.{List, [], _∷_, map}
+use Prim.Native.Nat.{ℕ, zero, suc, _≤_, _<_}
 use native.Mathlib.Omega.{arith}
-use lib.Dec.{eqb, leb, ltb}
+use lib.Dec.{eqb, leb}
 use lib.ListN.{length}
-use borrow.Author.Tests.{leb-true, le-leb, lt-ltb, ltb-true, eqb-true, eq-eqb}
+use borrow.Author.Tests.{leb-true, le-leb, lt-ltb, eqb-true, eq-eqb}
 use Rattle.machine.specs.declared.Queue.{Queue}
 use Rattle.machine.specs.Range.{every, lastOf}
 use Rattle.machine.specs.Words.{ceiling, mostCells}
@@ -17,7 +17,7 @@ use Rattle.machine.specs.Packets.{isNamed}
 use Rattle.machine.specs.Counts.{pointers}
 use Rattle.machine.specs.Reached.{Reached, reached}
 use Rattle.machine.specs.Questions.{inRange}
-use Rattle.machine.specs.Audit.{fieldSound, cellSound, cellsSound, chainSound, otherSlotsZero, packetsLegal, replays, packetsSound, before, undoes, pointersSound, allReached, Sound}
+use Rattle.machine.specs.Audit.{fieldSound, cellSound, cellsSound, otherSlotsZero, packetsLegal, replays, packetsSound, before, undoes, pointersSound, allReached, Sound}
 use Rattle.machine.specs.Facts.{Linked, Chain}
 use Rattle.machine.proofs.Range.{tested, or-true, or-left, or-right, and-both, and-first, and-second, not-both, every-at, every-all}
 use Rattle.machine.proofs.Table.{free-not-in-use, not-in-use-free}

@@ -1,9 +1,9 @@
 -- Words that fields of cells in use and waiting packets may hold, and what a legal packet gives.
-use mathlib.Core.Path.{_≡_, refl, sym, ap, ap₂, _∙_}
-use mathlib.Core.Logic.{_⊎_, inl, inr, ⊎-elim, _↔_}
+use mathlib.Core.Path.{_≡_, refl}
+use mathlib.Core.Logic.{⊎-elim}
 use mathlib.Core.Bool.{Bool, true, false, cond, _&&_, _||_, false≢true}
-use mathlib.Core.List.{List, [], _∷_, _++_}
-use Prim.Native.Nat.{ℕ, zero, suc, pred, _+_, _≤_, _<_}
+use mathlib.Core.List.{List, [], _∷_}
+use Prim.Native.Nat.{ℕ, suc, pred, _≤_, _<_}
 use native.Mathlib.Omega.{arith}
 use lib.Dec.{eqb, leb}
 use borrow.Author.Tests.{eqb-true, eq-eqb, leb-true}
@@ -12,10 +12,9 @@ use Rattle.machine.specs.Words.{isNil, isCell, isAtom, isLegal, mostCells}
 use Rattle.machine.specs.Table.{left, right, capacity, inUse}
 use Rattle.machine.specs.Queue.{Packet}
 use Rattle.machine.specs.Packets.{Kind, reads, makes, replaces, raises, lowers, unknown, kindOf, namesOf, names, contains, isNamed}
-use Rattle.machine.specs.Questions.{numberInRange}
 use Rattle.machine.specs.Audit.{fieldSound, wordsOfKind, packetLegal, namesInUse, packetsLegal}
-use Rattle.machine.proofs.Range.{tested, or-true, or-left, or-right, and-both, and-first, and-second, not-both}
-use Rattle.machine.proofs.Words.{cell-place, cell-number, place-cell}
+use Rattle.machine.proofs.Range.{or-true, or-left, or-right, and-both, and-first, and-second}
+use Rattle.machine.proofs.Words.{cell-place, cell-number}
 use Rattle.soundness.proofs.Views.{All, Written, WrittenOf, Placed, Detached, DetachedOf}
 
 -- nil, an atom, or a cell in use

@@ -1,21 +1,20 @@
 -- Fresh gives a sound store, whatever the table was.
 use mathlib.Core.Path.{_≡_, refl, sym, ap, _∙_}
-use mathlib.Core.Logic.{_⊎_, inl, inr, ⊎-elim}
-use mathlib.Core.Bool.{Bool, true, false, cond}
+use mathlib.Core.Logic.{⊎-elim}
+use mathlib.Core.Bool.{Bool, false, cond}
 use mathlib.Core.List.{List, [], _∷_, map}
 use Prim.Native.Nat.{ℕ, zero, suc, _+_, _≤_, _<_}
 use native.Mathlib.Omega.{arith}
-use lib.Dec.{ltb}
 use lib.ListN.{length}
 use borrow.Author.Tests.{le-ltb}
 use Rattle.machine.specs.Range.{matching, occurrences, lastOf}
 use Rattle.machine.specs.Words.{mostCells}
-use Rattle.machine.specs.Table.{left, right, rootCount, cellCount, state, capacity, firstFree, lastFree, tableLength, wordAt, inUse, isFree}
-use Rattle.machine.specs.Queue.{Packet, emptyQueue, waiting}
+use Rattle.machine.specs.Table.{left, rootCount, cellCount, state, capacity, firstFree, lastFree, tableLength, wordAt, inUse}
+use Rattle.machine.specs.Queue.{emptyQueue}
 use Rattle.machine.specs.Calls.{freshTable}
 use Rattle.machine.specs.Audit.{replays, Sound}
 use Rattle.machine.specs.Facts.{Linked, Chain, FreshTable}
-use Rattle.machine.proofs.Range.{matching-same, matching-other, not-both, below-suc}
+use Rattle.machine.proofs.Range.{matching-same, matching-other, not-both}
 use Rattle.machine.proofs.Table.{not-in-use-free}
 use Rattle.machine.proofs.Fresh.{fresh-is}
 use Rattle.soundness.proofs.Views.{shown, seen, seen-none, earlier}

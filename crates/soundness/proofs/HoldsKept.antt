@@ -1,38 +1,35 @@
 -- Root counts with their waiting changes stay the holds: each row call tells what its packet lists, and a cons its new cell's 1.
-use mathlib.Core.Path.{_≡_, refl, sym, ap, _∙_}
-use mathlib.Core.Logic.{_⊎_, inl, inr, ⊎-elim, _≢_}
-use mathlib.Core.Bool.{Bool, true, false, cond}
-use mathlib.Core.List.{List, [], _∷_, _++_}
-use Prim.Native.Nat.{ℕ, zero, suc, pred, _+_, _-_, _≤_, _<_}
+use mathlib.Core.Path.{_≡_, _∙_}
+use mathlib.Core.Logic.{⊎-elim}
+use mathlib.Core.List.{List, _∷_}
+use Prim.Native.Nat.{ℕ, suc, pred, _+_, _≤_, _<_}
 use native.Mathlib.Omega.{arith}
 use borrow.Author.Tests.{leb-true}
 use Rattle.machine.specs.declared.Queue.{Queue}
-use Rattle.machine.specs.Range.{matching}
-use Rattle.machine.specs.Table.{left, right, rootCount, capacity, firstFree, wordAt, putWord}
+use Rattle.machine.specs.Table.{left, right, rootCount, capacity, wordAt}
 use Rattle.machine.specs.Queue.{Packet, emptyQueue, appended, taken, waiting}
 use Rattle.machine.specs.Packets.{kindOf, root, plus, minus, changesOf, changes, movedBy, usesOf, uses, waitingChange}
-use Rattle.machine.specs.Calls.{fresh, RowCall, car, cdr, cons, setLeft, setRight, up, down, row, Store, store, field, packetOf, withoutFirst, written, valueOf, freshTable}
+use Rattle.machine.specs.Calls.{fresh, RowCall, car, cdr, cons, setLeft, setRight, up, down, row, Store, packetOf, written, valueOf, freshTable}
 use Rattle.machine.specs.Step.{applyChanges}
 use Rattle.machine.specs.Questions.{firstNo, askFree, questions}
 use Rattle.machine.specs.Machine.{accepted}
-use Rattle.machine.specs.Facts.{Chain}
 use Rattle.machine.proofs.Table.{word-other}
-use Rattle.machine.proofs.Ring.{Arrays, arrays-appended, arrays-taken, waiting-appended}
+use Rattle.machine.proofs.Ring.{arrays-appended, arrays-taken, waiting-appended}
 use Rattle.machine.proofs.Kept.{kept}
 use Rattle.machine.proofs.Replay.{replays-uses}
 use Rattle.soundness.specs.Demand3.{Holds, holds, gains, gives, NoneOwed, RootsAreHolds}
 use Rattle.soundness.proofs.ByKind.{moves, waiting-cons, waiting-snoc}
-use Rattle.soundness.proofs.Facts.{Facts, Slots, slots-of, sound-facts}
+use Rattle.soundness.proofs.Facts.{Facts, slots-of, sound-facts}
 use Rattle.soundness.proofs.SlotsKept.{waiting-empty}
 use Rattle.soundness.proofs.FreshSound.{fresh-roots}
 use Rattle.soundness.proofs.Replayed.{replayed-sum}
-use Rattle.soundness.proofs.RowAsked.{Passed, RowYes, row-yes}
-use Rattle.soundness.proofs.Making.{making-root}
-use Rattle.soundness.proofs.RowSound.{chain-some, row-sound}
+use Rattle.soundness.proofs.RowAsked.{RowYes, row-yes}
+use Rattle.soundness.proofs.RowWrote.{cons-root}
+use Rattle.soundness.proofs.RowSound.{row-sound}
 use Rattle.soundness.proofs.Taking.{taking-capacity, taking-root, taking-facts}
 use Rattle.soundness.proofs.Sweeping.{swept-capacity, swept-root}
 use Rattle.soundness.proofs.StepSound.{stepTable, waiting-rest, step-sound}
-use Rattle.soundness.proofs.Keeps.{Whole, FreshYes, fresh-yes, fresh-whole, machine-accepted}
+use Rattle.soundness.proofs.Keeps.{Whole, fresh-yes, fresh-whole, machine-accepted}
 
 -- a call gives up no more holds than question 6 asks for
 gives-uses : (t : List ℕ) (r : RowCall) (x : ℕ) → gives r x ≤ uses (packetOf t r) x
@@ -45,19 +42,6 @@ gives-uses t (setRight y z) x = omega arith
 gives-uses t (up y n) x = omega arith
 gives-uses t (down y n) x = omega arith
 
-module _ (t : List ℕ) (ps : List Packet) (f : Facts t ps) where
-  -- cons gives its new cell the root count 1
-  cons-root : (x y i : ℕ) → firstFree t ≢ 0 → i < capacity t → wordAt (written t (cons x y)) i rootCount ≡ wordAt t i rootCount + matching (firstFree t) (suc i) 1
-  unfolding written withoutFirst field
-  cons-root x y i some l = go (f .free) (f .chain)
-    where
-      go : (is : List ℕ) → Chain t is → wordAt (written t (cons x y)) i rootCount ≡ wordAt t i rootCount + matching (firstFree t) (suc i) 1
-      go [] h = absurd (some (h .linked))
-      go (new ∷ rest) h =
-          let e : firstFree t ≡ suc new = h .linked .0 in
-          let d : pred (suc new) ≡ new = omega arith in
-          rw (e, d) (making-root t ps f new rest h x y i l)
-
 -- root count, packet and history of one call
 row-moves : (t : List ℕ) (q : Queue) (f : Facts t (waiting q)) (r : RowCall) → RowYes t q r → (i : ℕ) → i < capacity t
     → wordAt (written t r) i rootCount + moves root plus (packetOf t r) (suc i) + gives r (suc i)
@@ -65,7 +49,7 @@ row-moves : (t : List ℕ) (q : Queue) (f : Facts t (waiting q)) (r : RowCall) �
 unfolding gains gives packetOf valueOf changes changesOf movedBy kindOf askFree
 row-moves t q f (car x) y i l = unfold written in omega arith
 row-moves t q f (cdr x) y i l = unfold written in omega arith
-row-moves t q f (cons x z) y i l = omega (arith, cons-root t (waiting q) f x z i (chain-some t (f .free) (f .chain) (y .free .0)) l)
+row-moves t q f (cons x z) y i l = omega (arith, cons-root t (waiting q) f x z i (y .free .0) l)
 row-moves t q f (setLeft x z) y i l = unfold written in omega (arith, word-other t (pred x) left z i rootCount (omega arith) (omega arith) (λ _ e. omega arith))
 row-moves t q f (setRight x z) y i l = unfold written in omega (arith, word-other t (pred x) right z i rootCount (omega arith) (omega arith) (λ _ e. omega arith))
 row-moves t q f (up x n) y i l = unfold written in omega arith

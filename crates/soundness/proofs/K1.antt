@@ -1,15 +1,13 @@
 -- Demand 3 is not vacuous: the machine's own calls are joined links, and the theorem holds of K1's twelve.
-use mathlib.Core.Path.{_≡_, refl, sym, ap, _∙_}
+use mathlib.Core.Path.{_≡_, refl, ap, _∙_}
 use mathlib.Core.List.{List, [], _∷_}
-use Prim.Native.Nat.{ℕ, suc}
-use Rattle.machine.specs.declared.Queue.{Queue}
 use Rattle.machine.specs.Range.{matching}
-use Rattle.machine.specs.Calls.{Call, fresh, Reply, value, Store}
+use Rattle.machine.specs.Calls.{Call, Reply, Store}
 use Rattle.machine.specs.Machine.{machine, run, replies}
 use Rattle.machine.specs.Cases.{unmade, K1-calls, K1-replies, K1-table}
 use Rattle.machine.proofs.Kept.{kept}
 use Rattle.machine.proofs.Cases.{K}
-use Rattle.soundness.specs.Demand3.{Link, Joined, Begun, tableAfter, queueAfter, Holds, holds, gains, gives, moved, Answered, answers, holdsFrom, holdsAfter, Clauses}
+use Rattle.soundness.specs.Demand3.{Link, Joined, Begun, tableAfter, queueAfter, holds, gains, gives, moved, Answered, answers, holdsFrom, holdsAfter, Clauses}
 use Rattle.soundness.specs.Links.{linksOf}
 use Rattle.soundness.proofs.Theorem.{demand3}
 

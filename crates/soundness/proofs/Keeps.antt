@@ -1,25 +1,23 @@
 -- Every call of the machine leaves a sound store sound, accepted or refused; and an accepted fresh makes any store sound.
-use mathlib.Core.Path.{_≡_, refl, sym, ap, _∙_}
-use mathlib.Core.Logic.{_⊎_, inl, inr, ⊎-elim}
-use mathlib.Core.Bool.{Bool, true, false, _&&_}
+use mathlib.Core.Path.{_≡_, refl}
+use mathlib.Core.Logic.{inl}
 use mathlib.Core.List.{List, [], _∷_}
-use Prim.Native.Nat.{ℕ, zero, suc, _≤_, _<_}
-use native.Mathlib.Omega.{arith}
+use Prim.Native.Nat.{ℕ, zero, suc, _≤_}
 use lib.Dec.{leb}
 use lib.ListN.{length}
 use borrow.Author.Tests.{leb-true}
 use Rattle.machine.specs.declared.Queue.{Queue}
 use Rattle.machine.specs.Words.{mostCells}
-use Rattle.machine.specs.Table.{capacity, tableLength}
-use Rattle.machine.specs.Queue.{Packet, emptyQueue, appended, waiting}
-use Rattle.machine.specs.Calls.{Call, fresh, row, step, audit, Reply, refused, Store, store, packetOf, written, freshTable}
-use Rattle.machine.specs.Step.{Outcome, outcome, stepWith, stepFrom, stepped}
+use Rattle.machine.specs.Table.{tableLength}
+use Rattle.machine.specs.Queue.{Packet, emptyQueue, waiting}
+use Rattle.machine.specs.Calls.{Call, fresh, row, step, audit, Reply, refused, Store, packetOf, freshTable}
+use Rattle.machine.specs.Step.{outcome, stepWith, stepFrom, stepped}
 use Rattle.machine.specs.Questions.{firstNo, cellsInRange, longEnough, early, questions}
 use Rattle.machine.specs.Audit.{Sound, audited}
 use Rattle.machine.specs.Machine.{accepted, answered, machine}
+use Rattle.machine.specs.Promise.{Decided, Promise}
 use Rattle.machine.proofs.Range.{and-first, and-second}
 use Rattle.machine.proofs.Ring.{Arrays, arrays-appended, arrays-taken}
-use Rattle.machine.proofs.Asked.{AllYes}
 use Rattle.machine.proofs.Kept.{early-yes}
 use Rattle.soundness.proofs.SlotsKept.{arrays-empty}
 use Rattle.soundness.proofs.FreshSound.{fresh-sound}
@@ -76,3 +74,14 @@ machine-whole s call w = go (firstNo (questions s call)) refl
     go : (n : ℕ) → firstNo (questions s call) ≡ n → Whole (machine s call .after .table) (machine s call .after .queue)
     go zero e = rw (machine-accepted s call e) (accepted-whole s call w e)
     go (suc n) e = rw (machine-refused s call n e) w
+
+-- on a sound store all that a call gives is decided
+pub decided : (s : Store) (call : Call) → Sound (s .table) (s .queue) → Decided s call
+decided s (fresh c) h = tt
+decided s (row r) h = h
+decided s step h = inl h
+decided s audit h = tt
+
+-- so every call that keeps the promise leaves a sound store sound
+pub promise-whole : (s : Store) (call : Call) (r : Reply) (after : Store) → Promise s call r after → Whole (s .table) (s .queue) → Whole (after .table) (after .queue)
+promise-whole s call r after p w = rw (p .exact (decided s call (w .sound)) .1) (machine-whole s call w)

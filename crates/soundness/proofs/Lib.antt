@@ -12,6 +12,7 @@ pub mod RowAsked
 pub mod Unwritten
 pub mod Replacing
 pub mod Making
+pub mod RowWrote
 pub mod RowSound
 pub mod Taking
 pub mod Masks
@@ -22,5 +23,6 @@ pub mod HoldsKept
 pub mod Theorem
 pub mod Untrimmed
 pub mod CodeTests
+pub mod Raised
 pub mod K1
 pub mod ShortcutsBite

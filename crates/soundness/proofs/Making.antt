@@ -1,31 +1,30 @@
 -- Cons: the first free cell leaves the chain and is in use, with both operands and root count 1.
 use mathlib.Core.Path.{_≡_, refl, sym, ap, ap₂, _∙_}
 use mathlib.Core.Logic.{_⊎_, inl, inr, ⊎-elim, _≢_}
-use mathlib.Core.Bool.{Bool, true, false, cond, _&&_, _||_}
+use mathlib.Core.Bool.{Bool, true, false, cond}
 use mathlib.Core.List.{List, [], _∷_, _++_, map}
 use Prim.Native.Nat.{ℕ, zero, suc, pred, _+_, _≤_, _<_}
 use native.Mathlib.Omega.{arith}
 use lib.Dec.{eqb, ltb, eqb·suc-zero}
 use lib.ListN.{length}
-use borrow.Author.Tests.{eqb-true, eqb-false, eq-eqb, lt-ltb, le-ltb}
+use borrow.Author.Tests.{eqb-true, eqb-false, eq-eqb, lt-ltb}
 use Rattle.machine.specs.Range.{matching, occurrences, lastOf}
-use Rattle.machine.specs.Words.{isCell, isLegal}
+use Rattle.machine.specs.Words.{isLegal}
 use Rattle.machine.specs.Table.{stride, left, right, rootCount, cellCount, state, capacity, firstFree, lastFree, tableLength, wordAt, putEnds, putCell, inUse, isFree}
 use Rattle.machine.specs.Queue.{Packet, packet}
-use Rattle.machine.specs.Packets.{Kind, makes, kindOf, root, plus, minus, namesOf, names, usesOf, uses, changesOf, changes, movedBy, contains, isNamed, waitingChange}
+use Rattle.machine.specs.Packets.{kindOf, namesOf, names, usesOf, uses, isNamed}
 use Rattle.machine.specs.Reached.{isRoot, pointsTo, begun, Reached}
 use Rattle.machine.specs.Audit.{replays, wordsOfKind, packetLegal}
 use Rattle.machine.specs.Facts.{Linked, Chain}
-use Rattle.machine.proofs.Range.{tested, or-true, or-left, or-right, and-both, not-both, matching-same, matching-other}
-use Rattle.machine.proofs.Words.{cell-place, cell-number, place-cell}
-use Rattle.machine.proofs.Table.{Inside, room, each-word, inside-putCell, cell-left, cell-right, cell-root, cell-cell, cell-state, cell-other, word-putEnds, length-putEnds, length-putCell, capacity-putEnds, capacity-putCell, firstFree-putEnds, firstFree-putCell, lastFree-putEnds, lastFree-putCell, free-not-in-use, not-in-use-free}
-use Rattle.soundness.proofs.ByKind.{unnamed-waiting}
-use Rattle.soundness.proofs.Views.{View, shown, Same, putView, put-same, put-other}
+use Rattle.machine.proofs.Range.{tested, or-left, and-both, not-both, matching-same, matching-other}
+use Rattle.machine.proofs.Words.{place-cell}
+use Rattle.machine.proofs.Table.{Inside, room, cell-left, cell-right, cell-root, cell-cell, cell-state, cell-other, word-putEnds, length-putEnds, length-putCell, capacity-putEnds, capacity-putCell, firstFree-putEnds, firstFree-putCell, lastFree-putEnds, lastFree-putCell, free-not-in-use, not-in-use-free}
+use Rattle.soundness.proofs.Views.{shown, Same, putView, put-same, put-other}
 use Rattle.soundness.proofs.Fits.{Fit, fit-grows, LegalPacket}
 use Rattle.soundness.proofs.Undoing.{shown-used, shown-free}
 use Rattle.soundness.proofs.Facts.{Facts, Live, free-zero, free-unnamed}
 use Rattle.soundness.proofs.Replayed.{replay-append, replays-unnamed}
-use Rattle.soundness.proofs.Appending.{Appends, append-facts, linked-same, chain-free, free-same, operand-fit, reached-used, reached-grows, root-stays}
+use Rattle.soundness.proofs.Appending.{Wrote, append-facts, linked-same, chain-free, free-same, operand-fit, reached-used, reached-grows, root-stays}
 use Rattle.soundness.proofs.RowAsked.{Passed}
 use Rattle.soundness.proofs.Unwritten.{cell-legal, names-three}
 use Rattle.soundness.proofs.Replacing.{points-by, points-cases}
@@ -34,7 +33,10 @@ occurrences-head : (i : ℕ) (is : List ℕ) (j : ℕ) → occurrences j (i ∷ 
 unfolding occurrences
 occurrences-head i is j = refl
 
--- the place new, at the head of the chain, becomes a cell of x and y
+-- the place new leaves the head of the chain and becomes a cell of x and y
+abbrev pub withCell : List ℕ → ℕ → ℕ → ℕ → List ℕ
+withCell t new x y = putCell (putEnds t (wordAt t new left) (cond (eqb (wordAt t new left) 0) 0 (lastFree t))) new x y 1 0 1
+
 module _ (t : List ℕ) (ps : List Packet) (f : Facts t ps) (new : ℕ) (rest : List ℕ) (chain : Chain t (new ∷ rest)) (x y : ℕ) where
   abbrev next : ℕ
   next = wordAt t new left
@@ -46,7 +48,7 @@ module _ (t : List ℕ) (ps : List Packet) (f : Facts t ps) (new : ℕ) (rest : 
   ended = putEnds t next last
 
   abbrev u : List ℕ
-  u = putCell ended new x y 1 0 1
+  u = withCell t new x y
 
   abbrev make : Packet
   make = packet 2 x y (suc new)
@@ -84,7 +86,7 @@ module _ (t : List ℕ) (ps : List Packet) (f : Facts t ps) (new : ℕ) (rest : 
   each-cell : (P : ℕ → Type 0) → P new → ((i : ℕ) → i ≢ new → P i) → (i : ℕ) → P i
   each-cell P h g i = ⊎-elim (λ (e : i ≡ new). rw e h) (g i) (is-new i)
 
-  was-free : inUse t new ≡ false
+  pub was-free : inUse t new ≡ false
   unfolding occurrences
   was-free = free-not-in-use t new (chain-free t (new ∷ rest) chain new below (omega (arith, matching-same new new 1 refl)))
 
@@ -158,6 +160,18 @@ module _ (t : List ℕ) (ps : List Packet) (f : Facts t ps) (new : ℕ) (rest : 
       at-new (suc zero) m = put-same (putView (shown u) new left 0) new right 0 ∙ sym (shown-free t new right was-free)
       at-new (suc (suc k)) m = absurd (omega arith)
 
+  at-cell : (k w : ℕ) → wordAt u new k ≡ w → shown u (pred (suc new)) k ≡ w
+  at-cell k w e = ap (λ (i : ℕ). shown u i k) (let d : pred (suc new) ≡ new = omega arith in d) ∙ shown-used u new k new-used ∙ e
+
+  pub make-wrote : Wrote t u make
+  unfolding kindOf
+  make-wrote = record {
+    sameCapacity = same-capacity;
+    placed = ((omega (arith, below), omega arith), (omega (arith, below), omega arith));
+    holds = (at-cell left x new-left, at-cell right y new-right);
+    undoes = λ i k l m. ap (λ (n : ℕ). putView (putView (shown u) n left 0) n right 0 i k) (let d : pred (suc new) ≡ new = omega arith in d) ∙ undone-cell i k l m;
+  }
+
   module _ (a : Passed t u ps make) (legal-x : isLegal (capacity t) x ≡ true) (legal-y : isLegal (capacity t) y ≡ true) where
     x-fit : Fit t x
     unfolding uses usesOf kindOf
@@ -207,14 +221,10 @@ module _ (t : List ℕ) (ps : List Packet) (f : Facts t ps) (new : ℕ) (rest : 
           names = names-three (Fit u) x y (suc new) gx gy new-fit;
         }
 
-    at-cell : (k w : ℕ) → wordAt u new k ≡ w → shown u (pred (suc new)) k ≡ w
-    at-cell k w e = ap (λ (i : ℕ). shown u i k) (let d : pred (suc new) ≡ new = omega arith in d) ∙ shown-used u new k new-used ∙ e
-
     pub making : Facts u (ps ++ (make ∷ []))
-    unfolding kindOf
     making = append-facts t u ps make f (record {
       sameLength = length-putCell ended new x y 1 0 1 ∙ length-putEnds t next last;
-      sameCapacity = same-capacity;
+      wrote = make-wrote;
       states = each-cell (λ i. i < capacity t → wordAt u i state ≤ 1) (λ _. omega (arith, cell-state ended new x y 1 0 1 inside)) (λ i d l. rw (other i state (omega arith) d) (f .states i l));
       roots = each-cell (λ i. i < capacity t → wordAt u i rootCount ≤ 4095) (λ _. omega (arith, new-root)) (λ i d l. rw (other i rootCount (omega arith) d) (f .roots i l));
       counts = each-cell (λ i. i < capacity t → wordAt u i cellCount ≡ wordAt t i cellCount)
@@ -226,8 +236,6 @@ module _ (t : List ℕ) (ps : List Packet) (f : Facts t ps) (new : ℕ) (rest : 
       chain = rest-chain;
       legal = make-legal;
       replay = replay-all;
-      holds = (at-cell left x new-left, at-cell right y new-right);
-      undoes = λ i k l m. ap (λ (n : ℕ). putView (putView (shown u) n left 0) n right 0 i k) (let d : pred (suc new) ≡ new = omega arith in d) ∙ undone-cell i k l m;
       within = rw same-capacity at (a .within);
     })
 

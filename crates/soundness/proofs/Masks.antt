@@ -1,18 +1,18 @@
 -- A view with only some cells shown. Where packets wrote to cells that are shown, masking commutes with undoing.
-use mathlib.Core.Path.{_≡_, refl, sym, ap, ap₂, _∙_}
-use mathlib.Core.Logic.{_⊎_, inl, inr, ⊎-elim}
+use mathlib.Core.Path.{_≡_, refl, sym, ap, _∙_}
+use mathlib.Core.Logic.{⊎-elim}
 use mathlib.Core.Bool.{Bool, true, false, cond, not, _&&_}
-use mathlib.Core.List.{List, [], _∷_, _++_}
-use Prim.Native.Nat.{ℕ, zero, suc, pred, _+_, _≤_, _<_}
+use mathlib.Core.List.{List, [], _∷_}
+use Prim.Native.Nat.{ℕ, suc, pred, _+_}
 use native.Mathlib.Omega.{arith}
 use lib.Dec.{eqb}
 use borrow.Author.Tests.{eqb-true}
-use Rattle.machine.specs.Range.{total, matching}
+use Rattle.machine.specs.Range.{matching}
 use Rattle.machine.specs.Table.{left, right}
 use Rattle.machine.specs.Queue.{Packet}
 use Rattle.machine.specs.Packets.{Kind, reads, makes, replaces, raises, lowers, unknown, kindOf}
 use Rattle.machine.proofs.Range.{tested, and-second, not-both, total-add, total-same, matching-other}
-use Rattle.soundness.proofs.Views.{View, putView, put-other, entries, seen, seen-same, Same, put-views, undoneView, undoView, undo-same, HoldsOf, HoldsFor, holds-same, WrittenOf, Written, Placed, All, earlier, WithinView, within-same, StagesOf}
+use Rattle.soundness.proofs.Views.{View, putView, put-other, entries, seen, Same, put-views, undoneView, undoView, undo-same, HoldsOf, HoldsFor, holds-same, WrittenOf, Written, Placed, All, earlier, WithinView, within-same, StagesOf}
 
 unfoldable pub mask : (ℕ → Bool) → View → View
 mask m v i k = cond (m i) (v i k) 0

@@ -1,27 +1,27 @@
 -- The replaces: a field of a held cell is written, and the word detached stays protected by the packet.
-use mathlib.Core.Path.{_≡_, refl, sym, ap, _∙_}
+use mathlib.Core.Path.{_≡_, sym, _∙_}
 use mathlib.Core.Logic.{_⊎_, inl, inr, ⊎-elim}
-use mathlib.Core.Bool.{Bool, true, false, cond, _&&_, _||_}
+use mathlib.Core.Bool.{true, false, cond, _&&_}
 use mathlib.Core.List.{List, [], _∷_, _++_}
-use Prim.Native.Nat.{ℕ, zero, suc, pred, _+_, _≤_, _<_}
+use Prim.Native.Nat.{ℕ, zero, suc, pred, _≤_, _<_}
 use native.Mathlib.Omega.{arith}
 use lib.Dec.{eqb}
-use borrow.Author.Tests.{eqb-true, eqb-false, eq-eqb}
+use borrow.Author.Tests.{eqb-true, eq-eqb}
 use Rattle.machine.specs.Words.{isCell, isLegal}
 use Rattle.machine.specs.Table.{stride, left, right, rootCount, cellCount, state, capacity, wordAt, putWord, inUse}
 use Rattle.machine.specs.Queue.{Packet, packet}
-use Rattle.machine.specs.Packets.{Kind, replaces, kindOf, namesOf, names, usesOf, uses, contains}
+use Rattle.machine.specs.Packets.{replaces, kindOf, namesOf, names, usesOf, uses, contains}
 use Rattle.machine.specs.Reached.{isRoot, pointsTo, Reached}
 use Rattle.machine.specs.Audit.{wordsOfKind, packetLegal}
 use Rattle.machine.proofs.Range.{tested, or-true, or-left, or-right, and-both, and-first, and-second, not-both, matching-same}
-use Rattle.machine.proofs.Words.{cell-place, cell-number}
+use Rattle.machine.proofs.Words.{cell-place}
 use Rattle.machine.proofs.Table.{room, word-put, word-other, length-putWord, capacity-putWord, firstFree-putWord, lastFree-putWord}
-use Rattle.soundness.proofs.Views.{shown, Same, putView, put-same, put-other, undoneView, HoldsOf}
+use Rattle.soundness.proofs.Views.{shown, Same, putView, put-same}
 use Rattle.soundness.proofs.Fits.{Fit, fit-grows, LegalPacket, WrittenIn, second-of}
 use Rattle.soundness.proofs.Undoing.{shown-used, used-put, shown-put}
 use Rattle.soundness.proofs.Facts.{Facts, Live}
 use Rattle.soundness.proofs.Replayed.{replay-append}
-use Rattle.soundness.proofs.Appending.{Appends, append-facts, chain-same, operand-fit, reached-grows, root-stays, root-named}
+use Rattle.soundness.proofs.Appending.{HeldFor, Wrote, append-facts, chain-same, operand-fit, reached-grows, root-stays, root-named}
 use Rattle.soundness.proofs.RowAsked.{Passed}
 use Rattle.soundness.proofs.Unwritten.{cell-legal, cell-used, names-three}
 
@@ -63,12 +63,12 @@ module _ (t : List ℕ) (ps : List Packet) (f : Facts t ps) (n k x y : ℕ) (kin
   other : (i m : ℕ) → m < stride → right < m → wordAt u i m ≡ wordAt t i m
   other i m l h = word-other t (pred x) k y i m (omega arith) l (λ _ e. omega arith)
 
-  module _ (a : Passed t u ps replace) where
+  module _ (held : HeldFor t ps replace) where
     x-fit : Fit t x
-    x-fit = operand-fit t ps f replace x (a .held) (cell-legal (capacity t) x cell) (λ i e. used-as i (inl e))
+    x-fit = operand-fit t ps f replace x held (cell-legal (capacity t) x cell) (λ i e. used-as i (inl e))
 
     y-fit : Fit t y
-    y-fit = operand-fit t ps f replace y (a .held) word (λ i e. used-as i (inr e))
+    y-fit = operand-fit t ps f replace y held word (λ i e. used-as i (inr e))
 
     x-used : inUse t (pred x) ≡ true
     x-used = cell-used t x cell x-fit
@@ -123,10 +123,13 @@ module _ (t : List ℕ) (ps : List Packet) (f : Facts t ps) (n k x y : ℕ) (kin
     same-root : (i : ℕ) → wordAt u i rootCount ≡ wordAt t i rootCount
     same-root i = other i rootCount (omega arith) (omega arith)
 
-    pub replacing : Facts u (ps ++ (replace ∷ []))
-    replacing = append-facts t u ps replace f (record {
+    pub replace-wrote : Wrote t u replace
+    replace-wrote = record { sameCapacity = same-capacity; placed = rw kind (below, low); holds = rw kind holds-y; undoes = rw kind undone-field }
+
+    pub replacing : Passed t u ps replace → Facts u (ps ++ (replace ∷ []))
+    replacing a = append-facts t u ps replace f (record {
       sameLength = length-putWord t (pred x) k y;
-      sameCapacity = same-capacity;
+      wrote = replace-wrote;
       states = λ i l. rw (other i state (omega arith) (omega arith)) (f .states i l);
       roots = λ i l. rw (same-root i) (f .roots i l);
       counts = λ i l. other i cellCount (omega arith) (omega arith);
@@ -135,9 +138,7 @@ module _ (t : List ℕ) (ps : List Packet) (f : Facts t ps) (n k x y : ℕ) (kin
       free = f .free;
       chain = chain-same t u (f .free) same-capacity (firstFree-putWord t (pred x) k y) (lastFree-putWord t (pred x) k y) (λ i _. same-use i) free-words (f .chain);
       legal = replace-legal;
-      replay = λ i l. rw (same-root i) (replay-append (suc i) (wordAt t i rootCount) ps replace (f .replay i l) (a .held i l) (rw (same-root i) at (a .most i (rw same-capacity l))));
-      holds = rw kind holds-y;
-      undoes = rw kind undone-field;
+      replay = λ i l. rw (same-root i) (replay-append (suc i) (wordAt t i rootCount) ps replace (f .replay i l) (held i l) (rw (same-root i) at (a .most i (rw same-capacity l))));
       within = rw same-capacity at (a .within);
     })
 

@@ -1,19 +1,18 @@
 -- S3's replay when a packet joins: the number that a cell's root count comes to is its held count.
-use mathlib.Core.Path.{_≡_, refl, sym, ap, _∙_}
-use mathlib.Core.Logic.{_⊎_, inl, inr, ⊎-elim}
-use mathlib.Core.Bool.{Bool, true, false, _&&_}
+use mathlib.Core.Path.{_≡_, refl}
+use mathlib.Core.Logic.{_⊎_, ⊎-elim}
+use mathlib.Core.Bool.{true, false}
 use mathlib.Core.List.{List, [], _∷_, _++_}
-use Prim.Native.Nat.{ℕ, zero, suc, _+_, _-_, _≤_, _<_}
+use Prim.Native.Nat.{ℕ, _+_, _≤_}
 use native.Mathlib.Omega.{arith}
-use lib.Dec.{leb}
 use borrow.Author.Tests.{leb-true, le-leb}
 use Rattle.machine.specs.Words.{ceiling}
 use Rattle.machine.specs.Queue.{Packet}
-use Rattle.machine.specs.Packets.{root, plus, minus, names, uses, waitingChange, contains, isNamed}
+use Rattle.machine.specs.Packets.{root, plus, minus, uses, waitingChange, isNamed}
 use Rattle.machine.specs.Audit.{replayed, replays}
 use Rattle.machine.proofs.Range.{and-both}
 use Rattle.machine.proofs.Replay.{replays-uses, replays-bound, replays-rest}
-use Rattle.soundness.proofs.ByKind.{moves, lowers-uses, Unmoved, unnamed, unnamed-first, unnamed-rest, waiting-snoc}
+use Rattle.soundness.proofs.ByKind.{moves, lowers-uses, unnamed, unnamed-first, unnamed-rest, waiting-snoc}
 
 -- what a root count comes to
 unfoldable pub final : ℕ → ℕ → List Packet → ℕ

@@ -1,19 +1,19 @@
 -- What the questions give where a row call is accepted.
-use mathlib.Core.Path.{_≡_, refl, sym, ap, _∙_}
-use mathlib.Core.Logic.{_⊎_, inl, inr, ⊎-elim}
-use mathlib.Core.Bool.{Bool, true, false, _||_}
+use mathlib.Core.Path.{_≡_, sym, _∙_}
+use mathlib.Core.Logic.{inl, inr, ⊎-elim}
+use mathlib.Core.Bool.{true, _||_}
 use mathlib.Core.List.{List, [], _∷_, _++_}
-use Prim.Native.Nat.{ℕ, zero, suc, pred, _+_, _≤_, _<_}
+use Prim.Native.Nat.{ℕ, suc, _+_, _≤_, _<_}
 use native.Mathlib.Omega.{arith}
-use lib.Dec.{eqb, leb}
+use lib.Dec.{eqb}
 use borrow.Author.Tests.{leb-true, ltb-true, eqb-true}
 use Rattle.machine.specs.declared.Queue.{Queue}
 use Rattle.machine.specs.Words.{ceiling}
 use Rattle.machine.specs.Table.{rootCount, capacity, wordAt}
 use Rattle.machine.specs.Queue.{Packet, slots, appended, waiting}
 use Rattle.machine.specs.Packets.{root, plus, minus, uses, waitingChange}
-use Rattle.machine.specs.Counts.{heldAtLeast, heldAtMost, pointers}
-use Rattle.machine.specs.Calls.{RowCall, car, cdr, cons, setLeft, setRight, up, down, Call, row, Store, packetOf, written}
+use Rattle.machine.specs.Counts.{heldAtLeast, heldAtMost}
+use Rattle.machine.specs.Calls.{RowCall, car, cdr, cons, setLeft, setRight, up, down, row, Store, packetOf, written}
 use Rattle.machine.specs.Questions.{Question, firstNo, heldEnough, slotEmpty, heldWithin, pointersWithin, earlyRow, early, askFree, lateRow, late, questions}
 use Rattle.machine.proofs.Range.{or-true, every-at}
 use Rattle.machine.proofs.Ring.{Arrays, waiting-appended}
@@ -21,11 +21,11 @@ use Rattle.machine.proofs.Undo.{within-is}
 use Rattle.machine.proofs.Asked.{Numbered, AllYes, firstNo-none, firstNo-all, firstNo-zero, early-numbered}
 use Rattle.machine.proofs.Kept.{early-yes}
 use Rattle.soundness.proofs.Views.{shown, WithinView, pointers-seen}
+use Rattle.soundness.proofs.Appending.{HeldFor}
 
 -- questions 6, 9 and 10 about a call with the packet p that makes the table u of t
 pub record Passed (t u : List ℕ) (ps : List Packet) (p : Packet) : Type 0 where
-  pub held : (i : ℕ) → i < capacity t
-      → (uses p (suc i) ≡ 0) ⊎ (waitingChange root minus (suc i) ps + uses p (suc i) ≤ wordAt t i rootCount + waitingChange root plus (suc i) ps)
+  pub held : HeldFor t ps p
   pub most : (i : ℕ) → i < capacity u → wordAt u i rootCount + waitingChange root plus (suc i) (ps ++ (p ∷ [])) ≤ ceiling + waitingChange root minus (suc i) (ps ++ (p ∷ []))
   pub within : WithinView (capacity u) (shown u)
 
@@ -60,14 +60,13 @@ late-yes s r h =
     firstNo-all (lateRow (s .table) (s .queue) r) (late-numbered (s .table) (s .queue) r)
     (sym (firstNo-none (early s (row r)) (late s (row r)) (early-numbered s (row r)) (firstNo-zero (early s (row r)) (early-yes s (row r) h))) ∙ h)
 
-held-test : (t : List ℕ) (ps : List Packet) (p : Packet) → heldEnough t ps p ≡ true → (i : ℕ) → i < capacity t
-    → (uses p (suc i) ≡ 0) ⊎ (waitingChange root minus (suc i) ps + uses p (suc i) ≤ wordAt t i rootCount + waitingChange root plus (suc i) ps)
+pub held-test : (t : List ℕ) (ps : List Packet) (p : Packet) → heldEnough t ps p ≡ true → HeldFor t ps p
 unfolding heldEnough heldAtLeast
 held-test t ps p h i l =
     ⊎-elim (λ e. inl (eqb-true (uses p (suc i)) 0 e)) (λ e. inr (leb-true (waitingChange root minus (suc i) ps + uses p (suc i)) (wordAt t i rootCount + waitingChange root plus (suc i) ps) e))
     (or-true (eqb (uses p (suc i)) 0) (heldAtLeast t ps i (uses p (suc i))) (every-at (capacity t) (λ j. eqb (uses p (suc j)) 0 || heldAtLeast t ps j (uses p (suc j))) h i l))
 
-most-test : (t : List ℕ) (ps : List Packet) → heldWithin t ps ≡ true → (i : ℕ) → i < capacity t
+pub most-test : (t : List ℕ) (ps : List Packet) → heldWithin t ps ≡ true → (i : ℕ) → i < capacity t
     → wordAt t i rootCount + waitingChange root plus (suc i) ps ≤ ceiling + waitingChange root minus (suc i) ps
 unfolding heldWithin heldAtMost
 most-test t ps h i l =

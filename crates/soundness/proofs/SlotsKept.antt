@@ -1,14 +1,13 @@
 -- Slots not waiting stay zero when a packet joins and when one is taken.
-use mathlib.Core.Path.{_≡_, refl, sym, ap, _∙_}
+use mathlib.Core.Path.{_≡_, refl, ap, _∙_}
 use mathlib.Core.Logic.{⊎-elim}
-use mathlib.Core.Bool.{Bool, true}
-use mathlib.Core.List.{List, [], _∷_}
-use Prim.Native.Nat.{ℕ, zero, suc, _+_, _-_, _%_, _≤_, _<_}
+use mathlib.Core.Bool.{true}
+use mathlib.Core.List.{[]}
+use Prim.Native.Nat.{ℕ, suc, _+_, _-_, _%_, _≤_, _<_}
 use native.Mathlib.Omega.{arith}
-use lib.ListN.{getD, replicate, length-replicate, getD-replicate}
 use Rattle.machine.specs.declared.Queue.{Queue}
 use Rattle.machine.specs.Range.{every}
-use Rattle.machine.specs.Queue.{Packet, packet, slots, slot, putSlot, emptyQueue, appended, taken, packetsFrom, waiting, zeroPacket}
+use Rattle.machine.specs.Queue.{Packet, slots, slot, putSlot, emptyQueue, appended, taken, packetsFrom, waiting, zeroPacket}
 use Rattle.machine.specs.Audit.{isZeroPacket, otherSlotsZero}
 use Rattle.machine.proofs.Range.{every-at, every-all, below-suc}
 use Rattle.machine.proofs.Ring.{Arrays, slot-same, slot-other}

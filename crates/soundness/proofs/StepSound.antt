@@ -1,19 +1,16 @@
 -- Every accepted step on a sound store leaves a sound store.
-use mathlib.Core.Path.{_≡_, refl, sym, ap, _∙_}
-use mathlib.Core.Logic.{⊎-elim}
-use mathlib.Core.List.{List, [], _∷_}
-use Prim.Native.Nat.{ℕ, zero, suc, pred, _+_, _-_, _≤_, _<_}
+use mathlib.Core.Path.{_≡_, sym, ap, _∙_}
+use mathlib.Core.List.{List, _∷_}
+use Prim.Native.Nat.{ℕ, pred, _<_}
 use native.Mathlib.Omega.{arith}
 use lib.ListN.{length}
 use Rattle.machine.specs.declared.Queue.{Queue}
-use Rattle.machine.specs.Table.{capacity}
 use Rattle.machine.specs.Queue.{Packet, slot, taken, waiting}
 use Rattle.machine.specs.Packets.{changes}
-use Rattle.machine.specs.Calls.{Store, store}
-use Rattle.machine.specs.Step.{applyChanges, unreached, swept, stepWith, stepFrom, stepped}
+use Rattle.machine.specs.Step.{applyChanges, unreached, swept}
 use Rattle.machine.specs.Audit.{Sound}
-use Rattle.machine.proofs.Ring.{Arrays, arrays-taken, waiting-taken, length-waiting}
-use Rattle.soundness.proofs.Facts.{Facts, Slots, slots-of, sound-facts, facts-sound}
+use Rattle.machine.proofs.Ring.{Arrays, waiting-taken, length-waiting}
+use Rattle.soundness.proofs.Facts.{Slots, slots-of, sound-facts, facts-sound}
 use Rattle.soundness.proofs.SlotsKept.{slots-taken}
 use Rattle.soundness.proofs.Taking.{taking-facts}
 use Rattle.soundness.proofs.Sweeping.{swept-facts, swept-live}

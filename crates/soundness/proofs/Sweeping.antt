@@ -2,30 +2,28 @@
 -- counts are the pointers that are left.
 use mathlib.Core.Path.{_≡_, refl, sym, ap, ap₂, _∙_}
 use mathlib.Core.Logic.{_⊎_, inl, inr, ⊎-elim, _≢_}
-use mathlib.Core.Bool.{Bool, true, false, cond, not, _&&_, _||_}
+use mathlib.Core.Bool.{Bool, true, false, cond, not, _&&_}
 use mathlib.Core.List.{List, [], _∷_, _++_, map}
-use Prim.Native.Nat.{ℕ, zero, suc, pred, _+_, _-_, _≤_, _<_}
+use Prim.Native.Nat.{ℕ, zero, suc, _+_, _≤_, _<_}
 use native.Mathlib.Omega.{arith}
 use lib.Dec.{ltb, eqb}
-use lib.ListN.{length}
 use borrow.Author.Tests.{ltb-false, le-ltb, eqb-true, eqb-false}
 use Rattle.machine.specs.Range.{total, select, matching, occurrences, lastOf}
-use Rattle.machine.specs.Words.{ceiling}
 use Rattle.machine.specs.Table.{stride, left, right, rootCount, cellCount, state, capacity, firstFree, lastFree, wordAt, inUse, isFree}
 use Rattle.machine.specs.Queue.{Packet}
 use Rattle.machine.specs.Packets.{names, contains, isNamed}
 use Rattle.machine.specs.Reached.{isRoot, pointsTo, begun, onward, Reached, reached}
 use Rattle.machine.specs.Step.{unreached, swept}
 use Rattle.machine.specs.Audit.{packetLegal}
-use Rattle.machine.specs.Facts.{Linked, Chain, pointersOut, Dead, Sweep}
-use Rattle.machine.proofs.Range.{tested, lt-or-ge, not-both, or-true, or-left, or-right, and-both, and-first, occurrences-append, matching-same, matching-other, total-same, total-zero}
-use Rattle.machine.proofs.Table.{free-not-in-use, not-in-use-free}
+use Rattle.machine.specs.Facts.{Linked, Chain, pointersOut, Sweep}
+use Rattle.machine.proofs.Range.{tested, lt-or-ge, not-both, or-left, or-right, occurrences-append, matching-same, matching-other, total-same}
+use Rattle.machine.proofs.Table.{free-not-in-use}
 use Rattle.machine.proofs.Chain.{Places, linked-places}
 use Rattle.machine.proofs.Reached.{reached-is}
 use Rattle.machine.proofs.Select.{select-places, select-once, dead-is}
 use Rattle.machine.proofs.Sweep.{sweeps}
-use Rattle.soundness.proofs.Views.{View, shown, entries, seen, seen-same, seen-none, Same, All, all-map, Detached, Written, earlier, earlier-same, earlier-entries, stages-same}
-use Rattle.soundness.proofs.Fits.{Fit, fit-nil, LegalPacket, WrittenIn, legal-written, legal-placed, legal-detached, written-map}
+use Rattle.soundness.proofs.Views.{View, shown, entries, seen, seen-same, seen-none, Same, All, all-map, Detached, earlier, earlier-same, earlier-entries, stages-same}
+use Rattle.soundness.proofs.Fits.{Fit, fit-nil, LegalPacket, WrittenIn, legal-written, legal-detached, written-map}
 use Rattle.soundness.proofs.Undoing.{shown-used, shown-free}
 use Rattle.soundness.proofs.Facts.{Facts, Live, last-within, free-zero, all-placed}
 use Rattle.soundness.proofs.Appending.{chain-free, reached-used, reached-grows}

@@ -1,26 +1,25 @@
 -- The oldest packet is applied: its changes come to raisings less lowerings, and the stage after it becomes the oldest.
 use mathlib.Core.Path.{_≡_, refl, sym, ap, ap₂, _∙_}
-use mathlib.Core.Logic.{_⊎_, inl, inr, ⊎-elim, _≢_}
+use mathlib.Core.Logic.{_≢_}
 use mathlib.Core.Bool.{Bool, true, false, cond}
-use mathlib.Core.List.{List, [], _∷_, _++_}
-use Prim.Native.Nat.{ℕ, zero, suc, pred, _+_, _-_, _≤_, _<_}
+use mathlib.Core.List.{List, [], _∷_}
+use Prim.Native.Nat.{ℕ, suc, _≤_, _<_}
 use native.Mathlib.Omega.{arith}
 use lib.Dec.{ltb}
-use lib.ListN.{length}
 use borrow.Author.Tests.{leb-true}
 use Rattle.machine.specs.Words.{ceiling}
-use Rattle.machine.specs.Table.{stride, left, right, rootCount, cellCount, state, capacity, firstFree, lastFree, wordAt, inUse}
+use Rattle.machine.specs.Table.{stride, left, right, rootCount, cellCount, state, capacity, firstFree, wordAt, inUse}
 use Rattle.machine.specs.Queue.{Packet}
-use Rattle.machine.specs.Packets.{Counter, root, cell, plus, minus, Change, changes, names, uses, contains}
+use Rattle.machine.specs.Packets.{Counter, root, cell, plus, minus, Change, changes, uses}
 use Rattle.machine.specs.Step.{counterWord, moveCount, applyChanges}
 use Rattle.machine.specs.Audit.{replayed}
 use Rattle.machine.proofs.Table.{each-word}
 use Rattle.machine.proofs.Moves.{firstFree-move}
 use Rattle.machine.proofs.Replay.{replays-uses, replays-bound, replays-rest}
 use Rattle.machine.proofs.Kept.{Framed, framed-changes}
-use Rattle.soundness.proofs.ByKind.{moves, lowers-uses, Unmoved, unnamed, unnamed-first, word-applied, count-applied, running-root, running-cell}
-use Rattle.soundness.proofs.Views.{shown, Same, same-sym, undoView, All, all-map, earlier, earlier-same, seen, seen-same, seen-undo, stages-same, stages-within}
-use Rattle.soundness.proofs.Fits.{Fit, fit-grows, LegalPacket, legal-grows, legal-placed}
+use Rattle.soundness.proofs.ByKind.{lowers-uses, Unmoved, unnamed, unnamed-first, word-applied, count-applied, running-root, running-cell}
+use Rattle.soundness.proofs.Views.{shown, Same, same-sym, all-map, earlier, earlier-same, seen, seen-same, seen-undo, stages-same, stages-within}
+use Rattle.soundness.proofs.Fits.{fit-grows, LegalPacket, legal-grows}
 use Rattle.soundness.proofs.Facts.{Facts, all-placed, free-unnamed}
 use Rattle.soundness.proofs.Appending.{chain-same}
 

@@ -1,33 +1,32 @@
 -- Demand 3: the facts carried from call to call give every clause.
 use mathlib.Core.Path.{_≡_, refl, sym, ap, _∙_}
-use mathlib.Core.Logic.{_⊎_, inl, inr, ⊎-elim, _↔_}
-use mathlib.Core.Bool.{Bool, true, false, not, _||_, false≢true}
-use mathlib.Core.List.{List, [], _∷_, _++_}
-use Prim.Native.Nat.{ℕ, zero, suc, _+_, _≤_, _<_}
+use mathlib.Core.Logic.{_⊎_, inl, inr, ⊎-elim}
+use mathlib.Core.Bool.{true, false, false≢true}
+use mathlib.Core.List.{List, [], _∷_}
+use Prim.Native.Nat.{ℕ, zero, suc, _≤_, _<_}
 use native.Mathlib.Omega.{arith}
-use lib.Dec.{eqb, leb, ltb}
+use lib.Dec.{ltb}
 use lib.ListN.{length}
 use borrow.Author.Tests.{le-leb, ltb-true, eqb-true, eq-eqb}
 use Rattle.machine.specs.declared.Queue.{Queue}
-use Rattle.machine.specs.Table.{rootCount, cellCount, capacity, wordAt, inUse, isFree}
+use Rattle.machine.specs.Table.{rootCount, capacity, wordAt, inUse, isFree}
 use Rattle.machine.specs.Queue.{Packet, waiting}
-use Rattle.machine.specs.Packets.{root, cell, plus, minus, waitingChange, isNamed}
-use Rattle.machine.specs.Counts.{pointers}
-use Rattle.machine.specs.Reached.{isRoot, ReachedBy, begun, onward, Reached, ReachedFrom}
+use Rattle.machine.specs.Packets.{root, plus, minus, isNamed}
+use Rattle.machine.specs.Reached.{isRoot, begun, onward, Reached, ReachedFrom}
 use Rattle.machine.specs.Calls.{Call, fresh, row, step, audit, Reply, value, refused, sound, Store, store}
-use Rattle.machine.specs.Step.{Outcome, outcome, stepWith, stepFrom, stepped}
+use Rattle.machine.specs.Step.{Outcome, stepWith, stepFrom, stepped}
 use Rattle.machine.specs.Questions.{firstNo, scratchEnough, early, late, questions}
 use Rattle.machine.specs.Audit.{rules, auditReply, audited, Sound}
 use Rattle.machine.specs.Machine.{accepted, machine}
-use Rattle.machine.specs.Promise.{Decided, Promise}
+use Rattle.machine.specs.Promise.{Promise}
 use Rattle.machine.proofs.Range.{tested, or-true}
-use Rattle.machine.proofs.Asked.{AllYes, firstNo-zero}
-use Rattle.soundness.specs.Demand3.{Link, Joined, Begun, tableAfter, queueAfter, Holds, holds, moved, Answered, answers, holdsFrom, holdsAfter, Held, NoneOwed, RootsAreHolds, CellsArePointers, NoneLost, NoneLeft, ExactWhenDone, AuditsSound, Clauses, Demand3}
+use Rattle.machine.proofs.Asked.{firstNo-zero}
+use Rattle.soundness.specs.Demand3.{Link, Joined, tableAfter, queueAfter, Holds, holds, moved, answers, holdsFrom, holdsAfter, Held, NoneLost, NoneLeft, ExactWhenDone, Clauses, Demand3}
 use Rattle.soundness.proofs.ByKind.{unnamed-waiting}
-use Rattle.soundness.proofs.Views.{shown, seen, pointers-seen, seen-waiting}
-use Rattle.soundness.proofs.Facts.{Facts, sound-facts, sound-live, all-placed}
+use Rattle.soundness.proofs.Facts.{Facts, sound-facts, sound-live}
 use Rattle.soundness.proofs.Appending.{counted-used, pointed-used}
-use Rattle.soundness.proofs.Keeps.{Whole, machine-refused, machine-accepted}
+use Rattle.soundness.proofs.Keeps.{machine-refused, machine-accepted, decided}
+use Rattle.soundness.proofs.CodeTests.{pointers-counted}
 use Rattle.soundness.proofs.HoldsKept.{Agrees, fresh-agrees, row-agrees, step-agrees}
 
 -- the machine's own calls carry the facts on
@@ -59,14 +58,7 @@ machine-agrees s call h a = go (firstNo (questions s call)) refl
     go zero e = rw (machine-accepted s call e) (accepted-agrees s call h a e)
     go (suc n) e = rw (machine-refused s call n e) (refused-agrees (s .table) (s .queue) h call (suc n) a)
 
--- on a sound store all that a call gives is decided
-decided : (s : Store) (call : Call) → Sound (s .table) (s .queue) → Decided s call
-decided s (fresh c) h = tt
-decided s (row r) h = h
-decided s step h = inl h
-decided s audit h = tt
-
--- so whoever keeps the promise carries them on too
+-- whoever keeps the promise carries them on too, since on a sound store all that a call gives is decided
 pub promise-agrees : (s : Store) (call : Call) (r : Reply) (after : Store) (h : ℕ → Holds) → Promise s call r after → Agrees (s .table) (s .queue) h
     → Agrees (after .table) (after .queue) (λ x. moved x call r (h x))
 promise-agrees s call r after h p a =
@@ -154,14 +146,11 @@ module _ (t : List ℕ) (q : Queue) (h : ℕ → Holds) (a : Agrees t q h) where
       there : inUse t i ≡ true → (j : ℕ) × Held t q h j × ReachedFrom t j i
       there e = let w = none-left i l e in (w .0, ⊎-elim (λ g. g) (λ n. absurd (none (suc (w .0)) n)) (w .1), w .2)
 
-  cells-are-pointers : CellsArePointers t q h
-  cells-are-pointers i l = omega (arith, f .counts i l, seen-waiting (capacity t) (shown t) ps i (all-placed t ps f) (f .stages), pointers-seen t i)
-
   pub clauses : Clauses t q h
   clauses = record {
     none-owed = a .owed;
     roots-are-holds = a .roots;
-    cells-are-pointers = cells-are-pointers;
+    cells-are-pointers = pointers-counted t q (a .whole .sound);
     none-lost = none-lost;
     none-left = none-left;
     exact-when-done = exact-when-done;

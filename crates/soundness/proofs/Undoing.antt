@@ -1,25 +1,24 @@
 -- Undoing packets on the table is undoing them on its view: S4's test is the stages of the view.
 use mathlib.Core.Path.{_≡_, refl, sym, ap, ap₂, _∙_}
-use mathlib.Core.Logic.{_⊎_, inl, inr, ⊎-elim}
-use mathlib.Core.Bool.{Bool, true, false, cond, _&&_, _||_}
-use mathlib.Core.List.{List, [], _∷_, _++_}
-use Prim.Native.Nat.{ℕ, zero, suc, pred, _+_, _≤_, _<_}
+use mathlib.Core.Logic.{⊎-elim}
+use mathlib.Core.Bool.{Bool, true, false, cond, _&&_}
+use mathlib.Core.List.{List, [], _∷_}
+use Prim.Native.Nat.{ℕ, suc, pred, _≤_}
 use native.Mathlib.Omega.{arith}
 use lib.Dec.{eqb, ltb}
 use lib.ListN.{length}
 use borrow.Author.Tests.{eqb-true, eq-eqb}
-use Rattle.machine.specs.Words.{ceiling}
 use Rattle.machine.specs.Table.{left, right, state, capacity, tableLength, wordAt, putWord, inUse}
 use Rattle.machine.specs.Queue.{Packet}
 use Rattle.machine.specs.Packets.{Kind, reads, makes, replaces, raises, lowers, unknown, kindOf}
 use Rattle.machine.specs.Calls.{field}
 use Rattle.machine.specs.Questions.{pointersWithin}
 use Rattle.machine.specs.Audit.{undoableOf, undoneOf, undoable, undone, before, undoes}
-use Rattle.machine.proofs.Range.{tested, and-both, and-first, and-second, not-both}
+use Rattle.machine.proofs.Range.{tested, and-both, and-first, and-second}
 use Rattle.machine.proofs.Table.{room, word-put, word-other, length-putWord, capacity-putWord}
 use Rattle.machine.proofs.Undo.{within-is, undoes-rest, undoes-holds, undoes-within}
-use Rattle.soundness.proofs.Views.{View, shown, putView, Same, put-views, undoneView, undoView, HoldsOf, HoldsFor, WrittenOf, Written, All, earlier, undo-same, WithinView, StagesOf, within-same, pointers-seen, seen}
-use Rattle.soundness.proofs.Fits.{LegalPacket, WrittenIn, legal-written, legal-placed, written-map}
+use Rattle.soundness.proofs.Views.{View, shown, putView, Same, put-views, undoneView, undoView, HoldsOf, HoldsFor, WrittenOf, Written, All, earlier, WithinView, StagesOf, within-same, pointers-seen, seen}
+use Rattle.soundness.proofs.Fits.{LegalPacket, WrittenIn, legal-written}
 
 pub shown-used : (t : List ℕ) (i k : ℕ) → inUse t i ≡ true → shown t i k ≡ wordAt t i k
 unfolding shown

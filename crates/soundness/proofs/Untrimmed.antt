@@ -1,9 +1,9 @@
 -- On a sound store nothing is trimmed.
-use mathlib.Core.Path.{_≡_, refl, sym, ap, _∙_}
+use mathlib.Core.Path.{_≡_, refl}
 use mathlib.Core.Logic.{_⊎_, inl, inr, ⊎-elim}
-use mathlib.Core.Bool.{Bool, true, false, cond, _&&_, false≢true}
+use mathlib.Core.Bool.{true, false, cond, false≢true}
 use mathlib.Core.List.{List, [], _∷_}
-use Prim.Native.Nat.{ℕ, zero, suc, _+_, _-_, _≤_, _<_}
+use Prim.Native.Nat.{ℕ, suc, _+_, _-_, _≤_, _<_}
 use native.Mathlib.Omega.{arith}
 use lib.Dec.{eqb, leb}
 use lib.ListN.{length}
@@ -11,15 +11,15 @@ use borrow.Author.Tests.{eqb-true, eqb-false, leb-true, leb-false}
 use Rattle.machine.specs.declared.Queue.{Queue}
 use Rattle.machine.specs.Range.{matching}
 use Rattle.machine.specs.Words.{ceiling}
-use Rattle.machine.specs.Table.{stride, rootCount, cellCount, capacity, tableLength, wordAt}
+use Rattle.machine.specs.Table.{rootCount, cellCount, capacity, tableLength, wordAt}
 use Rattle.machine.specs.Queue.{Packet, waiting}
-use Rattle.machine.specs.Packets.{Kind, reads, makes, replaces, raises, lowers, unknown, kindOf, Counter, root, cell, Direction, plus, minus, Change, changesOf, changes, movedBy, uses, usesOf, sameCounter}
+use Rattle.machine.specs.Packets.{Kind, reads, makes, replaces, raises, lowers, unknown, kindOf, Counter, root, cell, plus, minus, Change, changesOf, changes, movedBy, uses, usesOf, sameCounter}
 use Rattle.machine.specs.Step.{counterWord, shifted, moveCount, applyChanges}
 use Rattle.machine.specs.Audit.{Sound, replayed}
 use Rattle.machine.proofs.Range.{tested, matching-same, matching-other}
 use Rattle.machine.proofs.Moves.{length-move, capacity-move}
 use Rattle.machine.proofs.Replay.{replays-uses, replays-bound}
-use Rattle.soundness.specs.Untrimmed.{Lowers, ByItself, Passes, AllPass, Untrimmed}
+use Rattle.soundness.specs.Untrimmed.{Lowers, ByItself, AllPass, Untrimmed}
 use Rattle.soundness.proofs.ByKind.{count-change}
 use Rattle.soundness.proofs.Views.{shown, earlier, seen-undo, stages-within}
 use Rattle.soundness.proofs.Facts.{Facts, sound-facts, all-placed}

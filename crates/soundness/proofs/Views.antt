@@ -1,21 +1,21 @@
 -- The fields of the cells in use as a view, nil for a free cell. Pointers to a cell are the entries of a view that are its number, and a
 -- replace, a cons and their undoing put entries into it.
 use mathlib.Core.Path.{_≡_, refl, sym, ap, ap₂, _∙_}
-use mathlib.Core.Logic.{_⊎_, inl, inr, ⊎-elim, _≢_}
-use mathlib.Core.Bool.{Bool, true, false, cond, _&&_, _||_}
+use mathlib.Core.Logic.{⊎-elim, _≢_}
+use mathlib.Core.Bool.{true, false, cond, _&&_}
 use mathlib.Core.List.{List, [], _∷_, _++_}
-use Prim.Native.Nat.{ℕ, zero, suc, pred, _+_, _-_, _≤_, _<_}
+use Prim.Native.Nat.{ℕ, zero, suc, pred, _+_, _≤_, _<_}
 use native.Mathlib.Omega.{arith}
 use lib.Dec.{eqb}
-use borrow.Author.Tests.{eqb-true, eqb-false, eq-eqb, ne-eqb}
+use borrow.Author.Tests.{eqb-true, eq-eqb, ne-eqb}
 use Rattle.machine.specs.Range.{total, matching}
 use Rattle.machine.specs.Words.{ceiling}
 use Rattle.machine.specs.Table.{left, right, capacity, wordAt, inUse}
 use Rattle.machine.specs.Queue.{Packet}
-use Rattle.machine.specs.Packets.{Kind, reads, makes, replaces, raises, lowers, unknown, kindOf, Counter, root, cell, Direction, plus, minus, changesOf, changes, movedBy, waitingChange}
+use Rattle.machine.specs.Packets.{Kind, reads, makes, replaces, raises, lowers, unknown, kindOf, cell, plus, minus, changesOf, changes, movedBy, waitingChange}
 use Rattle.machine.specs.Counts.{pointersFrom, pointers}
-use Rattle.machine.proofs.Range.{tested, and-both, not-both, total-same, total-at, total-zero, matching-other}
-use Rattle.soundness.proofs.ByKind.{moves, waiting-cons}
+use Rattle.machine.proofs.Range.{tested, total-same, total-at, total-zero, matching-other}
+use Rattle.soundness.proofs.ByKind.{moves}
 
 -- by place and field
 abbrev pub View : Type 0

@@ -1,7 +1,7 @@
 -- "Shortcuts that lose cells": beside the right machine a variant for each, and one with no protection by packets at all, with a short list of
 -- calls from fresh after which it breaks a named clause of demand 3. Proved by computation in proofs/ShortcutsBite.
 use mathlib.Core.Bool.{Bool, cond, not, _&&_, _||_}
-use mathlib.Core.List.{List, [], _∷_, _++_}
+use mathlib.Core.List.{List, [], _∷_}
 use Prim.Native.Nat.{ℕ, zero, suc, pred, _+_, _-_, min}
 use lib.Dec.{eqb}
 use lib.ListN.{length}
@@ -13,7 +13,7 @@ use Rattle.machine.specs.Queue.{Packet, taken, waiting}
 use Rattle.machine.specs.Packets.{Direction, plus, minus, Change, changes, uses}
 use Rattle.machine.specs.Counts.{heldAtLeast}
 use Rattle.machine.specs.Reached.{reached}
-use Rattle.machine.specs.Calls.{Call, fresh, row, step, audit, RowCall, car, cons, setLeft, setRight, up, down, idle, applied, refused, Store, store, packetOf}
+use Rattle.machine.specs.Calls.{Call, fresh, row, step, audit, car, cons, setLeft, setRight, up, down, idle, applied, refused, Store, store, packetOf}
 use Rattle.machine.specs.Step.{counterWord, moveCount, applyChanges, unreached, joinAll, swept, cleared, Outcome, outcome}
 use Rattle.machine.specs.Questions.{Question, ask, firstNo, questions}
 use Rattle.machine.specs.Machine.{accepted}
