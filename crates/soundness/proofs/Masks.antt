@@ -7,12 +7,11 @@ use Prim.Native.Nat.{ℕ, suc, pred, _+_}
 use native.Mathlib.Omega.{arith}
 use lib.Dec.{eqb}
 use borrow.Author.Tests.{eqb-true}
-use Rattle.machine.specs.Range.{matching}
 use Rattle.machine.specs.Table.{left, right}
 use Rattle.machine.specs.Queue.{Packet}
 use Rattle.machine.specs.Packets.{Kind, reads, makes, replaces, raises, lowers, unknown, kindOf}
-use Rattle.machine.proofs.Range.{tested, and-second, not-both, total-add, total-same, matching-other}
-use Rattle.soundness.proofs.Views.{View, putView, put-other, entries, seen, Same, put-views, undoneView, undoView, undo-same, HoldsOf, HoldsFor, holds-same, WrittenOf, Written, Placed, All, earlier, WithinView, within-same, StagesOf}
+use Rattle.machine.proofs.Range.{tested, and-second, not-both, total-add, total-same}
+use Rattle.soundness.proofs.Views.{nil-no-cell, View, putView, put-other, entries, seen, Same, put-views, undoneView, undoView, undo-same, HoldsOf, HoldsFor, holds-same, WrittenOf, Written, Placed, All, earlier, WithinView, within-same, StagesOf}
 
 unfoldable pub mask : (ℕ → Bool) → View → View
 mask m v i k = cond (m i) (v i k) 0
@@ -102,11 +101,8 @@ module _ (c : ℕ) (m : ℕ → Bool) where
       total-same c (entries v (suc x)) (λ i. entries (mask m v) (suc x) i + entries (mask (λ j. not (m j)) v) (suc x) i) (λ i _. at-place i)
       ∙ total-add c (entries (mask m v) (suc x)) (entries (mask (λ j. not (m j)) v) (suc x))
     where
-      nil : matching 0 (suc x) 1 ≡ 0
-      nil = matching-other 0 (suc x) 1 (λ e. omega arith)
-
       at-place : (i : ℕ) → entries v (suc x) i ≡ entries (mask m v) (suc x) i + entries (mask (λ j. not (m j)) v) (suc x) i
-      at-place i = unfold entries mask in ⊎-elim (λ (e : m i ≡ true). rw e (omega (arith, nil))) (λ (e : m i ≡ false). rw e (omega (arith, nil))) (tested (m i))
+      at-place i = unfold entries mask in ⊎-elim (λ (e : m i ≡ true). rw e (omega (arith, nil-no-cell x))) (λ (e : m i ≡ false). rw e (omega (arith, nil-no-cell x))) (tested (m i))
 
   mask-within : (v : View) → WithinView c v → WithinView c (mask m v)
   mask-within v h i l = omega (arith, seen-split v i, h i l)

@@ -22,7 +22,7 @@ use Rattle.machine.proofs.Chain.{Places, linked-places}
 use Rattle.machine.proofs.Reached.{reached-is}
 use Rattle.machine.proofs.Select.{select-places, select-once, dead-is}
 use Rattle.machine.proofs.Sweep.{sweeps}
-use Rattle.soundness.proofs.Views.{View, shown, entries, seen, seen-same, seen-none, Same, All, all-map, Detached, earlier, earlier-same, earlier-entries, stages-same}
+use Rattle.soundness.proofs.Views.{nil-no-cell, View, shown, entries, seen, seen-same, seen-none, Same, All, all-map, Detached, earlier, earlier-same, earlier-entries, stages-same}
 use Rattle.soundness.proofs.Fits.{Fit, fit-nil, LegalPacket, WrittenIn, legal-written, legal-detached, written-map}
 use Rattle.soundness.proofs.Undoing.{shown-used, shown-free}
 use Rattle.soundness.proofs.Facts.{Facts, Live, last-within, free-zero, all-placed}
@@ -236,14 +236,11 @@ module _ (t : List ℕ) (ps : List Packet) (f : Facts t ps) where
       e : View
       e = earlier (shown t) ps
 
-      nil : matching 0 (suc x) 1 ≡ 0
-      nil = matching-other 0 (suc x) 1 (λ d. omega arith)
-
       at-place : (i : ℕ) → i < c → entries (mask (λ i. not (live i)) e) (suc x) i ≡ cond (doomed i) (fieldsAt t (suc x) i) 0
       at-place = each-sort (λ i. i < c → entries (mask (λ i. not (live i)) e) (suc x) i ≡ cond (doomed i) (fieldsAt t (suc x) i) 0)
-          (λ i h _. unfold entries mask in rw (h, live-used i h) (omega (arith, nil)))
+          (λ i h _. unfold entries mask in rw (h, live-used i h) (omega (arith, nil-no-cell x)))
           (λ i h d _. unfold entries mask fieldsAt in rw (h, d, unwritten-earlier c live (shown t) ps writes-live i left h, unwritten-earlier c live (shown t) ps writes-live i right h, shown-used t i left d, shown-used t i right d))
-          (λ i h d _. unfold entries mask in rw (h, d, unwritten-earlier c live (shown t) ps writes-live i left h, unwritten-earlier c live (shown t) ps writes-live i right h, shown-free t i left d, shown-free t i right d) (omega (arith, nil)))
+          (λ i h d _. unfold entries mask in rw (h, d, unwritten-earlier c live (shown t) ps writes-live i left h, unwritten-earlier c live (shown t) ps writes-live i right h, shown-free t i left d, shown-free t i right d) (omega (arith, nil-no-cell x)))
 
   -- no lowering meets 0
   pub swept-enough : (i : ℕ) → i < c → pointersOut t dead (suc i) ≤ wordAt t i cellCount

@@ -21,7 +21,7 @@ use Rattle.machine.specs.Machine.{accepted, machine}
 use Rattle.machine.specs.Promise.{Promise}
 use Rattle.machine.proofs.Range.{tested, or-true}
 use Rattle.machine.proofs.Asked.{firstNo-zero}
-use Rattle.soundness.specs.Demand3.{Link, Joined, tableAfter, queueAfter, Holds, holds, moved, answers, holdsFrom, holdsAfter, Held, NoneLost, NoneLeft, ExactWhenDone, Clauses, Demand3}
+use Rattle.soundness.specs.Demand3.{Link, Joined, Begun, tableAfter, queueAfter, Holds, holds, moved, answers, holdsFrom, holdsAfter, Held, NoneLost, NoneLeft, ExactWhenDone, Clauses, Demand3}
 use Rattle.soundness.proofs.ByKind.{unnamed-waiting}
 use Rattle.soundness.proofs.Facts.{Facts, sound-facts, sound-live}
 use Rattle.soundness.proofs.Appending.{counted-used, pointed-used}
@@ -157,10 +157,13 @@ module _ (t : List ℕ) (q : Queue) (h : ℕ → Holds) (a : Agrees t q h) where
     audits-sound = λ s r after l p. p .exact tt .0 ∙ audit-sound t q s (a .whole .sound) l;
   }
 
-pub demand3 : Demand3
+-- every list that demand 3 covers carries the facts, a sound store among them, to its end
+pub covered : (t : List ℕ) (q : Queue) (ls : List Link) → Begun ls → Joined t q ls → Agrees (tableAfter t ls) (queueAfter q ls) (holdsAfter ls)
 unfolding moved holdsFrom
-demand3 t q [] b j = absurd b
-demand3 t q (l ∷ ls) b j =
-    clauses (tableAfter t (l ∷ ls)) (queueAfter q (l ∷ ls)) (holdsAfter (l ∷ ls))
-    (links-agree (l .after .table) (l .after .queue) (λ x. moved x (l .call) (l .reply) (holds 0 0)) ls
-    (rw (b .2, b .3) (begun-agrees (store t q (l .scratch)) (b .0) (b .1) (l .reply) (l .after) (rw (b .2) at (j .0)) (b .3))) (j .1))
+covered t q [] b j = absurd b
+covered t q (l ∷ ls) b j =
+    links-agree (l .after .table) (l .after .queue) (λ x. moved x (l .call) (l .reply) (holds 0 0)) ls
+    (rw (b .2, b .3) (begun-agrees (store t q (l .scratch)) (b .0) (b .1) (l .reply) (l .after) (rw (b .2) at (j .0)) (b .3))) (j .1)
+
+pub demand3 : Demand3
+demand3 t q ls b j = clauses (tableAfter t ls) (queueAfter q ls) (holdsAfter ls) (covered t q ls b j)

@@ -91,7 +91,7 @@ seen-put c v i k w x l m = go k m refl
         omega (arith, sums, ap (λ (y : ℕ). matching y x 1) a, ap (λ (y : ℕ). matching y x 1) b, ap (λ (y : ℕ). matching (v i y) x 1) e)
     go (suc (suc n)) h e = absurd (omega arith)
 
-nil-no-cell : (x : ℕ) → matching 0 (suc x) 1 ≡ 0
+pub nil-no-cell : (x : ℕ) → matching 0 (suc x) 1 ≡ 0
 nil-no-cell x = matching-other 0 (suc x) 1 (λ e. omega arith)
 
 -- "Pointers to a cell" are its entries in the view

@@ -83,8 +83,8 @@ heldAtCeiling = record { asks = λ s call. without 9 (questions s call); applies
 abbrev pub heldAtCeiling-calls : List Call
 heldAtCeiling-calls = fresh 3 ∷ row (cons 0 0) ∷ row (up 1 4095) ∷ row (down 1 4095) ∷ step ∷ step ∷ step ∷ []
 
--- "Taking a cell with both counts 0 as dead while a waiting packet names it": looked at after each change, as source 001's figure 8 does. (After
--- a whole packet no cell in use has both counts 0 while a packet names it.)
+-- "Taking a cell with both counts 0 as dead while a waiting packet names it": looked at after each change, as source 001's figure 8 does. From fresh
+-- only then can it bite: a call names a cell that is held or in a field, so one of its counts is above 0 when all older packets are taken whole.
 unfoldable pub applyEager : List ℕ → List Change → List ℕ
 applyEager t [] = t
 applyEager t (h ∷ hs) =
@@ -121,7 +121,9 @@ reanswer n b (k ∷ ks) = cond (eqb (k .number) n) (ask n b) k ∷ reanswer n b 
 unfoldable pub asksOneHold : Store → Call → List Question
 asksOneHold s (fresh c) = questions s (fresh c)
 asksOneHold s (row r) =
-    reanswer 6 (every (capacity (s .table)) (λ i. eqb (uses (packetOf (s .table) r) (suc i)) 0 || heldAtLeast (s .table) (waiting (s .queue)) i 1)) (questions s (row r))
+    cond (eqb (packetOf (s .table) r .kind) 2)
+    (reanswer 6 (every (capacity (s .table)) (λ i. eqb (uses (packetOf (s .table) r) (suc i)) 0 || heldAtLeast (s .table) (waiting (s .queue)) i 1)) (questions s (row r)))
+    (questions s (row r))
 asksOneHold s step = questions s step
 asksOneHold s audit = questions s audit
 
