@@ -1,7 +1,7 @@
 -- A row call appends one packet and one stage: what its write must give for the facts to hold afterwards.
 use mathlib.Core.Path.{_≡_, refl, sym, ap, _∙_}
 use mathlib.Core.Logic.{_⊎_, inl, inr, ⊎-elim}
-use mathlib.Core.Bool.{Bool, true, false, cond}
+use mathlib.Core.Bool.{not, Bool, true, false, cond}
 use mathlib.Core.List.{List, [], _∷_, _++_}
 use Prim.Native.Nat.{ℕ, suc, _+_, _≤_, _<_}
 use native.Mathlib.Omega.{arith}
@@ -103,7 +103,7 @@ chain-free t is h i l m = ⊎-elim (λ e. e) (λ (e : isFree t i ≡ false). abs
 
 pub free-same : (t u : List ℕ) (i : ℕ) → inUse u i ≡ inUse t i → isFree u i ≡ isFree t i
 unfolding isFree
-free-same t u i e = ap mathlib.Core.Bool.not e
+free-same t u i e = ap not e
 
 pub chain-same : (t u : List ℕ) (is : List ℕ) → capacity u ≡ capacity t → firstFree u ≡ firstFree t → lastFree u ≡ lastFree t
     → ((i : ℕ) → i < capacity t → inUse u i ≡ inUse t i)

@@ -109,7 +109,7 @@ module _ (t : List ℕ) (q : Queue) (s : Sound t q) where
   unfolding packetsSound
   packet-tests = s .packets
 
-  pub sound-slots : otherSlotsZero q ≡ true
+  sound-slots : otherSlotsZero q ≡ true
   sound-slots = and-first slots-zero all-legal (and-first (slots-zero && all-legal) all-replay packet-tests)
 
   legal-all : All (LegalPacket t) (waiting q)
@@ -163,7 +163,7 @@ last-below c [] p = omega arith
 last-below c (i ∷ []) p = p .0
 last-below c (i ∷ j ∷ is) p = last-below c (j ∷ is) (p .1)
 
-pub first-within : (t : List ℕ) (is : List ℕ) → Chain t is → firstFree t ≤ capacity t
+first-within : (t : List ℕ) (is : List ℕ) → Chain t is → firstFree t ≤ capacity t
 first-within t is h = go is (h .linked)
   where
     go : (is : List ℕ) → Linked t (firstFree t) is → firstFree t ≤ capacity t

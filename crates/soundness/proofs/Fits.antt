@@ -130,7 +130,7 @@ pub second-of : (a b : ℕ) (ws : List ℕ) → contains (a ∷ b ∷ ws) b ≡ 
 unfolding contains
 second-of a b ws = or-right (eqb a b) (or-left (contains ws b) (eq-eqb b b refl))
 
-pub third-of : (a b c : ℕ) → contains (a ∷ b ∷ c ∷ []) c ≡ true
+third-of : (a b c : ℕ) → contains (a ∷ b ∷ c ∷ []) c ≡ true
 unfolding contains
 third-of a b c = or-right (eqb a c) (or-right (eqb b c) (or-left false (eq-eqb c c refl)))
 

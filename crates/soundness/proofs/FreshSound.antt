@@ -4,6 +4,7 @@ use mathlib.Core.Logic.{⊎-elim}
 use mathlib.Core.Bool.{Bool, false, cond}
 use mathlib.Core.List.{List, [], _∷_, map}
 use Prim.Native.Nat.{ℕ, zero, suc, _+_, _≤_, _<_}
+use native.Mathlib.Nat.{eq-or-lt-of-le}
 use native.Mathlib.Omega.{arith}
 use lib.ListN.{length}
 use borrow.Author.Tests.{le-ltb}
@@ -45,7 +46,7 @@ up-before i (suc n) j l = omega (arith, matching-other i j 1 (omega arith), up-b
 up-once : (i n j : ℕ) → i ≤ j → j < i + n → occurrences j (upFrom i n) ≡ 1
 unfolding upFrom occurrences
 up-once i zero j l m = absurd (omega arith)
-up-once i (suc n) j l m = ⊎-elim (λ e. here e) (λ e. later e (up-once (suc i) n j e (omega arith))) (native.Mathlib.Nat.eq-or-lt-of-le l)
+up-once i (suc n) j l m = ⊎-elim (λ e. here e) (λ e. later e (up-once (suc i) n j e (omega arith))) (eq-or-lt-of-le l)
   where
     here : i ≡ j → matching i j 1 + occurrences j (upFrom (suc i) n) ≡ 1
     here e = omega (arith, matching-same i j 1 e, up-before (suc i) n j (omega arith))

@@ -5,25 +5,23 @@ use mathlib.Core.Bool.{true, false}
 use mathlib.Core.List.{List, [], _∷_, _++_}
 use Prim.Native.Nat.{ℕ, zero, suc, _+_, _≤_, _<_}
 use native.Mathlib.Omega.{arith}
-use borrow.Author.Tests.{le-leb}
 use Rattle.machine.specs.declared.Queue.{Queue}
-use Rattle.machine.specs.Range.{every}
 use Rattle.machine.specs.Words.{ceiling}
-use Rattle.machine.specs.Table.{rootCount, cellCount, capacity, wordAt, inUse}
+use Rattle.machine.specs.Table.{rootCount, capacity, wordAt, inUse}
 use Rattle.machine.specs.Queue.{Packet, slots, appended, waiting}
 use Rattle.machine.specs.Packets.{Counter, root, cell, plus, minus, waitingChange}
-use Rattle.machine.specs.Counts.{heldAtMost, pointers}
+use Rattle.machine.specs.Counts.{pointers}
 use Rattle.machine.specs.Calls.{RowCall, packetOf, written}
+use Rattle.machine.specs.Step.{counterWord}
 use Rattle.machine.specs.Questions.{heldWithin, pointersWithin, earlyRow, askFree}
 use Rattle.machine.specs.Audit.{Sound}
-use Rattle.machine.proofs.Range.{every-all}
 use Rattle.machine.proofs.Ring.{Arrays, waiting-appended}
 use Rattle.machine.proofs.Undo.{within-is}
 use Rattle.machine.proofs.Asked.{AllYes}
 use Rattle.soundness.proofs.ByKind.{moves, unnamed-waiting, waiting-snoc}
 use Rattle.soundness.proofs.Facts.{Facts, sound-facts, free-unnamed}
 use Rattle.soundness.proofs.Appending.{HeldFor, Wrote, wrote-pointers}
-use Rattle.soundness.proofs.RowAsked.{most-test}
+use Rattle.soundness.proofs.RowAsked.{most-test, most-all}
 use Rattle.soundness.proofs.RowWrote.{row-wrote, row-root}
 use Rattle.soundness.proofs.CodeTests.{pointers-counted, held-most, pointers-most}
 
@@ -45,42 +43,51 @@ module _ (t : List ℕ) (q : Queue) (s : Sound t q) (r : RowCall) (early : AllYe
   abbrev u : List ℕ
   u = written t r
 
-  wrote : Wrote t u p
-  wrote = row-wrote t (waiting q) (sound-facts t q s) r early held free
+  f : Facts t ps
+  f = sound-facts t q s
 
-  pub question10 : (pointersWithin u ≡ true) ↔ ((i : ℕ) → i < capacity t → 0 < moves cell plus p (suc i) → Fits cell (wordAt t i cellCount) (suc i) ps p)
+  wrote : Wrote t u p
+  wrote = row-wrote t ps f r early held free
+
+  -- each cell that the call raises stays within the ceiling
+  abbrev Raises : Counter → ℕ → Type 0
+  Raises k i = 0 < moves k plus p (suc i) → Fits k (wordAt t i (counterWord k)) (suc i) ps p
+
+  pub question10 : (pointersWithin u ≡ true) ↔ ((i : ℕ) → i < capacity t → Raises cell i)
   question10 = (
     λ h i l _. omega (arith, within-is u .0 h i (rw (wrote .sameCapacity) l), wrote-pointers t u p wrote i, pointers-counted t q s i l),
     λ g. within-is u .1 (λ i l. let m : i < capacity t = rw (wrote .sameCapacity) at l in each i m (g i m)),
   )
     where
-      each : (i : ℕ) → i < capacity t → (0 < moves cell plus p (suc i) → Fits cell (wordAt t i cellCount) (suc i) ps p) → pointers u (suc i) ≤ ceiling
-      each i l g = ⊎-elim (λ z. let f = g z in omega (arith, wrote-pointers t u p wrote i, pointers-counted t q s i l)) (λ z. omega (arith, wrote-pointers t u p wrote i, pointers-most t q s i l)) (some-or-none (moves cell plus p (suc i)))
+      each : (i : ℕ) → i < capacity t → Raises cell i → pointers u (suc i) ≤ ceiling
+      each i l g =
+          let w = wrote-pointers t u p wrote i in
+          ⊎-elim (λ z. let h = g z in omega (arith, pointers-counted t q s i l)) (λ z. omega (arith, pointers-most t q s i l)) (some-or-none (moves cell plus p (suc i)))
+
+  -- the held count after the call
+  abbrev AtMost : ℕ → Type 0
+  AtMost i = wordAt u i rootCount + waitingChange root plus (suc i) (ps ++ (p ∷ [])) ≤ ceiling + waitingChange root minus (suc i) (ps ++ (p ∷ []))
+
+  raised-root : (i : ℕ) → i < capacity t → AtMost i → Raises root i
+  raised-root i l h z =
+      ⊎-elim (λ e. omega (arith, waiting-snoc root plus (suc i) ps p, waiting-snoc root minus (suc i) ps p)) (λ e. absurd (omega (arith, e .2))) (row-root t ps f r free i l)
 
   -- a root count is as it was, but for cons's new cell, which was free
-  pub question9 : Arrays q → q .count < slots
-      → (heldWithin u (waiting (appended q p)) ≡ true) ↔ ((i : ℕ) → i < capacity t → 0 < moves root plus p (suc i) → Fits root (wordAt t i rootCount) (suc i) ps p)
-  unfolding heldWithin heldAtMost
-  question9 a c = rw (waiting-appended q p a c) (there, back)
+  root-raised : (i : ℕ) → i < capacity t → Raises root i → AtMost i
+  root-raised i l g = ⊎-elim stands new (row-root t ps f r free i l)
     where
-      f : Facts t ps
-      f = sound-facts t q s
+      stands : wordAt u i rootCount ≡ wordAt t i rootCount → AtMost i
+      stands e =
+          let m = held-most t q s i l in
+          let a = waiting-snoc root plus (suc i) ps p in
+          let b = waiting-snoc root minus (suc i) ps p in
+          ⊎-elim (λ z. let h = g z in omega arith) (λ z. omega arith) (some-or-none (moves root plus p (suc i)))
 
-      there : every (capacity u) (λ i. heldAtMost u (ps ++ (p ∷ [])) i ceiling) ≡ true → (i : ℕ) → i < capacity t → 0 < moves root plus p (suc i) → Fits root (wordAt t i rootCount) (suc i) ps p
-      there h i l z =
-          let m = most-test u (ps ++ (p ∷ [])) (unfold heldWithin in h) i (rw (wrote .sameCapacity) l) in
-          ⊎-elim (λ e. omega (arith, waiting-snoc root plus (suc i) ps p, waiting-snoc root minus (suc i) ps p)) (λ e. absurd (omega (arith, e .2))) (row-root t ps f r free i l)
+      new : (wordAt u i rootCount ≡ 1) × (inUse t i ≡ false) × (moves root plus p (suc i) ≡ 0) → AtMost i
+      new e = omega (arith, e .0, e .2, waiting-snoc root plus (suc i) ps p, unnamed-waiting ps (suc i) (free-unnamed t ps f i l (e .1)) root plus)
 
-      back : ((i : ℕ) → i < capacity t → 0 < moves root plus p (suc i) → Fits root (wordAt t i rootCount) (suc i) ps p) → every (capacity u) (λ i. heldAtMost u (ps ++ (p ∷ [])) i ceiling) ≡ true
-      back g = every-all (capacity u) (λ i. heldAtMost u (ps ++ (p ∷ [])) i ceiling) (λ i l. le-leb _ _ (each i (rw (wrote .sameCapacity) at l)))
-        where
-          each : (i : ℕ) → i < capacity t → wordAt u i rootCount + waitingChange root plus (suc i) (ps ++ (p ∷ [])) ≤ ceiling + waitingChange root minus (suc i) (ps ++ (p ∷ []))
-          each i l = ⊎-elim stands new (row-root t ps f r free i l)
-            where
-              stands : wordAt u i rootCount ≡ wordAt t i rootCount → wordAt u i rootCount + waitingChange root plus (suc i) (ps ++ (p ∷ [])) ≤ ceiling + waitingChange root minus (suc i) (ps ++ (p ∷ []))
-              stands e =
-                  ⊎-elim (λ z. let h = g i l z in omega (arith, waiting-snoc root plus (suc i) ps p, waiting-snoc root minus (suc i) ps p))
-                  (λ z. omega (arith, held-most t q s i l, waiting-snoc root plus (suc i) ps p, waiting-snoc root minus (suc i) ps p)) (some-or-none (moves root plus p (suc i)))
-
-              new : (wordAt u i rootCount ≡ 1) × (inUse t i ≡ false) × (moves root plus p (suc i) ≡ 0) → wordAt u i rootCount + waitingChange root plus (suc i) (ps ++ (p ∷ [])) ≤ ceiling + waitingChange root minus (suc i) (ps ++ (p ∷ []))
-              new e = omega (arith, e .0, e .2, waiting-snoc root plus (suc i) ps p, unnamed-waiting ps (suc i) (free-unnamed t ps f i l (e .1)) root plus)
+  pub question9 : Arrays q → q .count < slots → (heldWithin u (waiting (appended q p)) ≡ true) ↔ ((i : ℕ) → i < capacity t → Raises root i)
+  question9 a c = rw (waiting-appended q p a c) (
+    λ h i l. raised-root i l (most-test u (ps ++ (p ∷ [])) h i (rw (wrote .sameCapacity) l)),
+    λ g. most-all u (ps ++ (p ∷ [])) (λ i l. let m : i < capacity t = rw (wrote .sameCapacity) at l in root-raised i m (g i m)),
+  )

@@ -6,7 +6,7 @@ use mathlib.Core.List.{List, [], _∷_, _++_}
 use Prim.Native.Nat.{ℕ, suc, _+_, _≤_, _<_}
 use native.Mathlib.Omega.{arith}
 use lib.Dec.{eqb}
-use borrow.Author.Tests.{leb-true, ltb-true, eqb-true}
+use borrow.Author.Tests.{le-leb, leb-true, ltb-true, eqb-true}
 use Rattle.machine.specs.declared.Queue.{Queue}
 use Rattle.machine.specs.Words.{ceiling}
 use Rattle.machine.specs.Table.{rootCount, capacity, wordAt}
@@ -15,7 +15,7 @@ use Rattle.machine.specs.Packets.{root, plus, minus, uses, waitingChange}
 use Rattle.machine.specs.Counts.{heldAtLeast, heldAtMost}
 use Rattle.machine.specs.Calls.{RowCall, car, cdr, cons, setLeft, setRight, up, down, row, Store, packetOf, written}
 use Rattle.machine.specs.Questions.{Question, firstNo, heldEnough, slotEmpty, heldWithin, pointersWithin, earlyRow, early, askFree, lateRow, late, questions}
-use Rattle.machine.proofs.Range.{or-true, every-at}
+use Rattle.machine.proofs.Range.{or-true, every-at, every-all}
 use Rattle.machine.proofs.Ring.{Arrays, waiting-appended}
 use Rattle.machine.proofs.Undo.{within-is}
 use Rattle.machine.proofs.Asked.{Numbered, AllYes, firstNo-none, firstNo-all, firstNo-zero, early-numbered}
@@ -71,6 +71,11 @@ pub most-test : (t : List ℕ) (ps : List Packet) → heldWithin t ps ≡ true �
 unfolding heldWithin heldAtMost
 most-test t ps h i l =
     leb-true (wordAt t i rootCount + waitingChange root plus (suc i) ps) (ceiling + waitingChange root minus (suc i) ps) (every-at (capacity t) (λ j. heldAtMost t ps j ceiling) h i l)
+
+pub most-all : (t : List ℕ) (ps : List Packet)
+    → ((i : ℕ) → i < capacity t → wordAt t i rootCount + waitingChange root plus (suc i) ps ≤ ceiling + waitingChange root minus (suc i) ps) → heldWithin t ps ≡ true
+unfolding heldWithin heldAtMost
+most-all t ps h = every-all (capacity t) (λ j. heldAtMost t ps j ceiling) (λ i l. le-leb _ _ (h i l))
 
 within-test : (u : List ℕ) → pointersWithin u ≡ true → WithinView (capacity u) (shown u)
 within-test u h i l = omega (arith, within-is u .0 h i l, pointers-seen u i)

@@ -48,7 +48,7 @@ module _ (t : List ℕ) (q : Queue) (f : Facts t (waiting q)) (live : Live t (wa
     live = replacing-live t ps f n k x y e l c (second-legal t x y w) (a .held) live;
   }
 
-  pub row-kept : (r : RowCall) → RowYes t q r → Kept (written t r) (ps ++ (packetOf t r ∷ []))
+  row-kept : (r : RowCall) → RowYes t q r → Kept (written t r) (ps ++ (packetOf t r ∷ []))
   unfolding earlyRow written packetOf field xIsCell kindOf
   row-kept (car x) a = record { facts = reading t ps f x (a .early .1 .0) left (omega arith) (a .passed); live = unwritten-live t ps f (packetOf t (car x)) live }
   row-kept (cdr x) a = record { facts = reading t ps f x (a .early .1 .0) right (omega arith) (a .passed); live = unwritten-live t ps f (packetOf t (cdr x)) live }

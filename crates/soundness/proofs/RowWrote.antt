@@ -83,7 +83,9 @@ module _ (t : List ℕ) (ps : List Packet) (f : Facts t ps) where
   unfolding askFree
   row-root (car x) a i l = unfold written in inl refl
   row-root (cdr x) a i l = unfold written in inl refl
-  row-root (cons x y) a i l = ⊎-elim (λ e. inr (new (eqb-true c (suc i) e))) (λ e. inl (omega (arith, cons-root x y i (a .0) l, matching-other c (suc i) 1 (eqb-false c (suc i) e)))) (tested (eqb c (suc i)))
+  row-root (cons x y) a i l =
+      ⊎-elim (λ e. inr (new (eqb-true c (suc i) e)))
+      (λ e. inl (omega (arith, cons-root x y i (a .0) l, matching-other c (suc i) 1 (eqb-false c (suc i) e)))) (tested (eqb c (suc i)))
     where
       c : ℕ
       c = packetOf t (cons x y) .c

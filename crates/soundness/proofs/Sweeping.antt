@@ -115,7 +115,8 @@ module _ (t : List ℕ) (ps : List Packet) (f : Facts t ps) where
   free-words i k m n d h = sweep .stands i k m n (free-not-dead i h) (λ e. absurd (d e))
 
   -- in three ways: reached, dead, free
-  each-sort : (P : ℕ → Type 0) → ((i : ℕ) → live i ≡ true → P i) → ((i : ℕ) → live i ≡ false → inUse t i ≡ true → P i) → ((i : ℕ) → live i ≡ false → inUse t i ≡ false → P i) → (i : ℕ) → P i
+  each-sort : (P : ℕ → Type 0) → ((i : ℕ) → live i ≡ true → P i) → ((i : ℕ) → live i ≡ false → inUse t i ≡ true → P i)
+      → ((i : ℕ) → live i ≡ false → inUse t i ≡ false → P i) → (i : ℕ) → P i
   each-sort P a b d i = ⊎-elim (λ h. a i h) (λ h. ⊎-elim (λ e. b i h e) (λ e. d i h e) (tested (inUse t i))) (tested (live i))
 
   pub swept-capacity : capacity u ≡ c
@@ -229,18 +230,21 @@ module _ (t : List ℕ) (ps : List Packet) (f : Facts t ps) where
   shows-earlier i k l m = earlier-same c (shown u) (mask live (shown t)) ps shows i k l m ∙ mask-earlier c live (shown t) ps writes-live i k l m
 
   -- the pointers out of dead cells are what the oldest stage loses
-  pub lost : (x : ℕ) → seen c (mask (λ i. not (live i)) (earlier (shown t) ps)) (suc x) ≡ pointersOut t dead (suc x)
+  lost : (x : ℕ) → seen c (mask (λ i. not (live i)) (earlier (shown t) ps)) (suc x) ≡ pointersOut t dead (suc x)
   unfolding seen unreached
   lost x = total-same c (entries (mask (λ i. not (live i)) e) (suc x)) (λ i. cond (doomed i) (fieldsAt t (suc x) i) 0) at-place ∙ sym (out-select t c doomed (suc x))
     where
       e : View
       e = earlier (shown t) ps
 
+      untouched : (i k : ℕ) → live i ≡ false → e i k ≡ shown t i k
+      untouched = unwritten-earlier c live (shown t) ps writes-live
+
       at-place : (i : ℕ) → i < c → entries (mask (λ i. not (live i)) e) (suc x) i ≡ cond (doomed i) (fieldsAt t (suc x) i) 0
       at-place = each-sort (λ i. i < c → entries (mask (λ i. not (live i)) e) (suc x) i ≡ cond (doomed i) (fieldsAt t (suc x) i) 0)
           (λ i h _. unfold entries mask in rw (h, live-used i h) (omega (arith, nil-no-cell x)))
-          (λ i h d _. unfold entries mask fieldsAt in rw (h, d, unwritten-earlier c live (shown t) ps writes-live i left h, unwritten-earlier c live (shown t) ps writes-live i right h, shown-used t i left d, shown-used t i right d))
-          (λ i h d _. unfold entries mask in rw (h, d, unwritten-earlier c live (shown t) ps writes-live i left h, unwritten-earlier c live (shown t) ps writes-live i right h, shown-free t i left d, shown-free t i right d) (omega (arith, nil-no-cell x)))
+          (λ i h d _. unfold entries mask fieldsAt in rw (h, d, untouched i left h, untouched i right h, shown-used t i left d, shown-used t i right d))
+          (λ i h d _. unfold entries mask in rw (h, d, untouched i left h, untouched i right h, shown-free t i left d, shown-free t i right d) (omega (arith, nil-no-cell x)))
 
   -- no lowering meets 0
   pub swept-enough : (i : ℕ) → i < c → pointersOut t dead (suc i) ≤ wordAt t i cellCount
@@ -274,15 +278,18 @@ module _ (t : List ℕ) (ps : List Packet) (f : Facts t ps) where
     some = rw swept-capacity (f .some);
     most = rw swept-capacity (f .most);
     room = rw (swept-capacity, sweep .sameLength) (f .room);
-    states = rw swept-capacity (λ (i : ℕ) (l : i < c). ⊎-elim (λ h. rw (live-words i state l (omega arith) (omega arith) h) (f .states i l)) (λ h. omega (arith, wiped i state l h (omega arith) (omega arith))) (tested (live i)));
+    states = rw swept-capacity (λ (i : ℕ) (l : i < c). ⊎-elim (λ h. rw (live-words i state l (omega arith) (omega arith) h) (f .states i l))
+        (λ h. omega (arith, wiped i state l h (omega arith) (omega arith))) (tested (live i)));
     roots = rw swept-capacity (λ (i : ℕ) (l : i < c). rw (swept-root i l) (f .roots i l));
-    cells = rw swept-capacity (λ (i : ℕ) (l : i < c). ⊎-elim (λ h. omega (arith, sweep .lowered i l (live-not-dead i h), f .cells i l)) (λ h. omega (arith, wiped i cellCount l h (omega arith) (omega arith))) (tested (live i)));
+    cells = rw swept-capacity (λ (i : ℕ) (l : i < c). ⊎-elim (λ h. omega (arith, sweep .lowered i l (live-not-dead i h), f .cells i l))
+        (λ h. omega (arith, wiped i cellCount l h (omega arith) (omega arith))) (tested (live i)));
     fields = rw swept-capacity (λ (i k : ℕ) (l : i < c) (m : k ≤ right) (e : inUse u i ≡ true). field-fits i k l m (used-live i l e));
     free = f .free ++ dead;
     chain = chain-after;
     legal = legal-after;
     replay = rw swept-capacity (λ (i : ℕ) (l : i < c). rw (swept-root i l) (f .replay i l));
-    stages = rw swept-capacity (stages-same c (mask live (shown t)) (shown u) ps (λ i k l m. sym (shows i k l m)) (all-placed t ps f) (mask-stages c live (shown t) ps (all-placed t ps f) writes-live (f .stages)));
+    stages = rw swept-capacity (stages-same c (mask live (shown t)) (shown u) ps (λ i k l m. sym (shows i k l m)) (all-placed t ps f)
+        (mask-stages c live (shown t) ps (all-placed t ps f) writes-live (f .stages)));
     counts = rw swept-capacity counts-after;
   }
 

@@ -35,7 +35,7 @@ no-count m r c root = r
 no-count m r c cell = c
 
 module _ (t : List ℕ) (p : Packet) (ps : List Packet) (f : Facts t (p ∷ ps)) where
-  abbrev pub applied : List ℕ
+  abbrev applied : List ℕ
   applied = applyChanges t (changes p)
 
   frame : Framed t applied

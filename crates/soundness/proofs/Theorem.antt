@@ -37,7 +37,8 @@ refused-agrees t q h (row r) n a = a
 refused-agrees t q h step n a = a
 refused-agrees t q h audit n a = a
 
-stepped-agrees : (s : Store) (h : ℕ → Holds) → Agrees (s .table) (s .queue) h → (ps : List Packet) → waiting (s .queue) ≡ ps → Agrees (stepFrom s ps .after .table) (stepFrom s ps .after .queue) h
+stepped-agrees : (s : Store) (h : ℕ → Holds) → Agrees (s .table) (s .queue) h → (ps : List Packet) → waiting (s .queue) ≡ ps
+    → Agrees (stepFrom s ps .after .table) (stepFrom s ps .after .queue) h
 unfolding stepFrom stepWith
 stepped-agrees s h a [] e = a
 stepped-agrees s h a (p ∷ ps) e = step-agrees (s .table) (s .queue) p ps h a e
@@ -123,7 +124,10 @@ module _ (t : List ℕ) (q : Queue) (h : ℕ → Holds) (a : Agrees t q h) where
 
   root-held : (j : ℕ) → j < capacity t → isRoot t ps j ≡ true → Held t q h j ⊎ (isNamed ps (suc j) ≡ true)
   unfolding isRoot
-  root-held j l e = ⊎-elim (λ n. inr n) (λ n. ⊎-elim (λ c. inl (unnamed-held n (ltb-true 0 (wordAt t j rootCount) c))) (λ c. inr c) (or-true (ltb 0 (wordAt t j rootCount)) (isNamed ps (suc j)) e)) (tested (isNamed ps (suc j)))
+  root-held j l e =
+      ⊎-elim (λ n. inr n)
+      (λ n. ⊎-elim (λ c. inl (unnamed-held n (ltb-true 0 (wordAt t j rootCount) c))) (λ c. inr c) (or-true (ltb 0 (wordAt t j rootCount)) (isNamed ps (suc j)) e))
+      (tested (isNamed ps (suc j)))
     where
       unnamed-held : isNamed ps (suc j) ≡ false → 0 < wordAt t j rootCount → Held t q h j
       unnamed-held n c = omega (arith, a .roots j l, unnamed-waiting ps (suc j) n root plus, unnamed-waiting ps (suc j) n root minus)

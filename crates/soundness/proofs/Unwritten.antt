@@ -51,7 +51,7 @@ wrote-nothing t n a b c h = let w = go (kindOf n) h in record { sameCapacity = r
     go unknown h = (tt, tt, λ i m _ _. refl)
 
 -- what a packet names
-pub names-one : (P : ℕ → Type 0) (a : ℕ) → P a → (w : ℕ) → contains (a ∷ []) w ≡ true → P w
+names-one : (P : ℕ → Type 0) (a : ℕ) → P a → (w : ℕ) → contains (a ∷ []) w ≡ true → P w
 unfolding contains
 names-one P a h w c = ⊎-elim (λ e. rw (eqb-true a w e) at h) (λ e. absurd (false≢true e)) (or-true (eqb a w) false c)
 

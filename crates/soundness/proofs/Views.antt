@@ -53,7 +53,7 @@ put-other v i k w j m d = ⊎-elim here (λ (e : eqb k m ≡ false). rw e) (test
     here e = rw (e, ne-eqb i j (λ x. d x (eqb-true k m e)))
 
 -- what holds of the entry put and of all entries holds of all entries afterwards
-pub put-entry : (P : ℕ → Type 0) (v : View) (i k w j m : ℕ) → P w → P (v j m) → P (putView v i k w j m)
+put-entry : (P : ℕ → Type 0) (v : View) (i k w j m : ℕ) → P w → P (v j m) → P (putView v i k w j m)
 unfolding putView
 put-entry P v i k w j m h g = ⊎-elim (λ (e : eqb k m && eqb i j ≡ true). rw e h) (λ (e : eqb k m && eqb i j ≡ false). rw e g) (tested (eqb k m && eqb i j))
 
