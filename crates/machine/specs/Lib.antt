@@ -7,7 +7,6 @@ pub mod Packets
 pub mod Counts
 pub mod Reached
 pub mod Calls
-pub mod Holds
 pub mod Step
 pub mod Questions
 pub mod Audit

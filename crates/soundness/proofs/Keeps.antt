@@ -1,0 +1,87 @@
+-- Every call of the machine leaves a sound store sound, accepted or refused; and an accepted fresh makes any store sound.
+use mathlib.Core.Path.{_≡_, refl}
+use mathlib.Core.Logic.{inl}
+use mathlib.Core.List.{List, [], _∷_}
+use Prim.Native.Nat.{ℕ, zero, suc, _≤_}
+use lib.Dec.{leb}
+use lib.ListN.{length}
+use borrow.Author.Tests.{leb-true}
+use Rattle.machine.specs.declared.Queue.{Queue}
+use Rattle.machine.specs.Words.{mostCells}
+use Rattle.machine.specs.Table.{tableLength}
+use Rattle.machine.specs.Queue.{Packet, emptyQueue, waiting}
+use Rattle.machine.specs.Calls.{Call, fresh, row, step, audit, Reply, refused, Store, packetOf, freshTable}
+use Rattle.machine.specs.Step.{outcome, stepWith, stepFrom, stepped}
+use Rattle.machine.specs.Questions.{firstNo, cellsInRange, longEnough, early, questions}
+use Rattle.machine.specs.Audit.{Sound, audited}
+use Rattle.machine.specs.Machine.{accepted, answered, machine}
+use Rattle.machine.specs.Promise.{Decided, Promise}
+use Rattle.machine.proofs.Range.{and-first, and-second}
+use Rattle.machine.proofs.Ring.{Arrays, arrays-appended, arrays-taken}
+use Rattle.machine.proofs.Kept.{early-yes}
+use Rattle.soundness.proofs.SlotsKept.{arrays-empty}
+use Rattle.soundness.proofs.FreshSound.{fresh-sound}
+use Rattle.soundness.proofs.RowSound.{row-sound}
+use Rattle.soundness.proofs.StepSound.{step-sound}
+
+-- sound, and its queue a record of arrays of 64: what the code's type says
+pub record Whole (t : List ℕ) (q : Queue) : Type 0 where
+  pub sound : Sound t q
+  pub arrays : Arrays q
+
+pub machine-refused : (s : Store) (call : Call) (n : ℕ) → firstNo (questions s call) ≡ suc n → machine s call ≡ outcome (refused (suc n)) s
+unfolding machine answered
+machine-refused s call n h = rw h
+
+pub machine-accepted : (s : Store) (call : Call) → firstNo (questions s call) ≡ 0 → machine s call ≡ accepted s call
+unfolding machine answered
+machine-accepted s call h = rw h
+
+-- what an accepted fresh was asked
+pub record FreshYes (c : ℕ) (t : List ℕ) : Type 0 where
+  pub some : 1 ≤ c
+  pub most : c ≤ mostCells
+  pub room : tableLength c ≤ length t
+
+pub fresh-yes : (s : Store) (c : ℕ) → firstNo (questions s (fresh c)) ≡ 0 → FreshYes c (s .table)
+unfolding early cellsInRange longEnough
+fresh-yes s c h =
+    let y = early-yes s (fresh c) h in
+    record {
+      some = leb-true 1 c (and-first (leb 1 c) (leb c mostCells) (y .0));
+      most = leb-true c mostCells (and-second (leb 1 c) (leb c mostCells) (y .0));
+      room = leb-true (tableLength c) (length (s .table)) (y .1 .0);
+    }
+
+pub fresh-whole : (s : Store) (c : ℕ) → firstNo (questions s (fresh c)) ≡ 0 → Whole (freshTable c (s .table)) emptyQueue
+fresh-whole s c h = let y = fresh-yes s c h in record { sound = fresh-sound c (s .table) (y .some) (y .most) (y .room); arrays = arrays-empty }
+
+step-whole : (s : Store) → Whole (s .table) (s .queue) → (ps : List Packet) → waiting (s .queue) ≡ ps → Whole (stepFrom s ps .after .table) (stepFrom s ps .after .queue)
+unfolding stepFrom stepWith
+step-whole s w [] e = w
+step-whole s w (p ∷ ps) e = record { sound = step-sound (s .table) (s .queue) p ps (w .sound) (w .arrays) e; arrays = arrays-taken (s .queue) (w .arrays) }
+
+pub accepted-whole : (s : Store) (call : Call) → Whole (s .table) (s .queue) → firstNo (questions s call) ≡ 0 → Whole (accepted s call .after .table) (accepted s call .after .queue)
+unfolding accepted stepped audited
+accepted-whole s (fresh c) w h = fresh-whole s c h
+accepted-whole s (row r) w h = record { sound = row-sound s r (w .sound) (w .arrays) h; arrays = arrays-appended (s .queue) (packetOf (s .table) r) (w .arrays) }
+accepted-whole s step w h = step-whole s w (waiting (s .queue)) refl
+accepted-whole s audit w h = w
+
+pub machine-whole : (s : Store) (call : Call) → Whole (s .table) (s .queue) → Whole (machine s call .after .table) (machine s call .after .queue)
+machine-whole s call w = go (firstNo (questions s call)) refl
+  where
+    go : (n : ℕ) → firstNo (questions s call) ≡ n → Whole (machine s call .after .table) (machine s call .after .queue)
+    go zero e = rw (machine-accepted s call e) (accepted-whole s call w e)
+    go (suc n) e = rw (machine-refused s call n e) w
+
+-- on a sound store all that a call gives is decided
+pub decided : (s : Store) (call : Call) → Sound (s .table) (s .queue) → Decided s call
+decided s (fresh c) h = tt
+decided s (row r) h = h
+decided s step h = inl h
+decided s audit h = tt
+
+-- so every call that keeps the promise leaves a sound store sound
+pub promise-whole : (s : Store) (call : Call) (r : Reply) (after : Store) → Promise s call r after → Whole (s .table) (s .queue) → Whole (after .table) (after .queue)
+promise-whole s call r after p w = rw (p .exact (decided s call (w .sound)) .1) (machine-whole s call w)

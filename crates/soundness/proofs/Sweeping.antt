@@ -1,0 +1,308 @@
+-- The cells in use that are not reached are freed. No waiting packet names one, so every stage loses just its entries, and the lowered
+-- counts are the pointers that are left.
+use mathlib.Core.Path.{_≡_, refl, sym, ap, ap₂, _∙_}
+use mathlib.Core.Logic.{_⊎_, inl, inr, ⊎-elim, _≢_}
+use mathlib.Core.Bool.{Bool, true, false, cond, not, _&&_}
+use mathlib.Core.List.{List, [], _∷_, _++_, map}
+use Prim.Native.Nat.{ℕ, zero, suc, _+_, _≤_, _<_}
+use native.Mathlib.Omega.{arith}
+use lib.Dec.{ltb, eqb}
+use borrow.Author.Tests.{ltb-false, le-ltb, eqb-true, eqb-false}
+use Rattle.machine.specs.Range.{total, select, matching, occurrences, lastOf}
+use Rattle.machine.specs.Table.{stride, left, right, rootCount, cellCount, state, capacity, firstFree, lastFree, wordAt, inUse, isFree}
+use Rattle.machine.specs.Queue.{Packet}
+use Rattle.machine.specs.Packets.{names, contains, isNamed}
+use Rattle.machine.specs.Reached.{isRoot, pointsTo, begun, onward, Reached, reached}
+use Rattle.machine.specs.Step.{unreached, swept}
+use Rattle.machine.specs.Audit.{packetLegal}
+use Rattle.machine.specs.Facts.{Linked, Chain, pointersOut, Sweep}
+use Rattle.machine.proofs.Range.{tested, lt-or-ge, not-both, or-left, or-right, occurrences-append, matching-same, matching-other, total-same}
+use Rattle.machine.proofs.Table.{free-not-in-use}
+use Rattle.machine.proofs.Chain.{Places, linked-places}
+use Rattle.machine.proofs.Reached.{reached-is}
+use Rattle.machine.proofs.Select.{select-places, select-once, dead-is}
+use Rattle.machine.proofs.Sweep.{sweeps}
+use Rattle.soundness.proofs.Views.{nil-no-cell, View, shown, entries, seen, seen-same, seen-none, Same, All, all-map, Detached, earlier, earlier-same, earlier-entries, stages-same}
+use Rattle.soundness.proofs.Fits.{Fit, fit-nil, LegalPacket, WrittenIn, legal-written, legal-detached, written-map}
+use Rattle.soundness.proofs.Undoing.{shown-used, shown-free}
+use Rattle.soundness.proofs.Facts.{Facts, Live, last-within, free-zero, all-placed}
+use Rattle.soundness.proofs.Appending.{chain-free, reached-used, reached-grows}
+use Rattle.soundness.proofs.Replacing.{points-by, points-cases}
+use Rattle.soundness.proofs.Masks.{mask, masked, unmasked, WritesShown, mask-earlier, unwritten-earlier, seen-split, mask-stages}
+
+last-occurs : (is : List ℕ) (z : ℕ) → lastOf (map suc is) ≡ suc z → 1 ≤ occurrences z is
+unfolding lastOf occurrences
+last-occurs [] z e = absurd (omega arith)
+last-occurs (y ∷ []) z e = omega (arith, matching-same y z 1 (omega arith))
+last-occurs (y ∷ x ∷ ys) z e = omega (arith, last-occurs (x ∷ ys) z e)
+
+none-past : (c : ℕ) (is : List ℕ) → Places c is → (i : ℕ) → c ≤ i → occurrences i is ≡ 0
+unfolding occurrences
+none-past c [] h i l = refl
+none-past c (j ∷ is) h i l = let k = h .0 in omega (arith, matching-other j i 1 (omega arith), none-past c is (h .1) i l)
+
+-- the pointers out of the cells that pass a test, as a sum
+out-append : (t : List ℕ) (is js : List ℕ) (x : ℕ) → pointersOut t (is ++ js) x ≡ pointersOut t is x + pointersOut t js x
+unfolding pointersOut
+out-append t [] js x = omega arith
+out-append t (i ∷ is) js x = omega (arith, out-append t is js x)
+
+fieldsAt : List ℕ → ℕ → ℕ → ℕ
+fieldsAt t x i = matching (wordAt t i left) x 1 + matching (wordAt t i right) x 1
+
+out-select : (t : List ℕ) (n : ℕ) (d : ℕ → Bool) (x : ℕ) → pointersOut t (select n d) x ≡ total n (λ i. cond (d i) (fieldsAt t x i) 0)
+unfolding select total pointersOut fieldsAt
+out-select t zero d x = refl
+out-select t (suc n) d x = out-append t (select n d) (cond (d n) (n ∷ []) []) x ∙ ap₂ _+_ (out-select t n d x) (last (d n))
+  where
+    last : (b : Bool) → pointersOut t (cond b (n ∷ []) []) x ≡ cond b (fieldsAt t x n) 0
+    last true = omega arith
+    last false = refl
+
+module _ (t : List ℕ) (ps : List Packet) (f : Facts t ps) where
+  abbrev c : ℕ
+  c = capacity t
+
+  abbrev live : ℕ → Bool
+  live = reached t ps
+
+  abbrev doomed : ℕ → Bool
+  doomed i = inUse t i && not (live i)
+
+  abbrev dead : List ℕ
+  dead = unreached t ps
+
+  abbrev u : List ℕ
+  u = swept t dead
+
+  dead-places : Places c dead
+  unfolding unreached
+  dead-places = select-places c doomed
+
+  sweep : Sweep t dead u
+  sweep = sweeps t dead (f .room) dead-places (last-within t (f .free) (f .chain))
+
+  live-reached : (i : ℕ) → live i ≡ true → Reached t ps i
+  live-reached i h = reached-is t ps i .0 h
+
+  reached-live : {i : ℕ} → Reached t ps i → live i ≡ true
+  reached-live {i} r = reached-is t ps i .1 r
+
+  live-used : (i : ℕ) → live i ≡ true → inUse t i ≡ true
+  live-used i h = reached-used t ps f (live-reached i h) .1
+
+  -- which cells are dead
+  is-dead : (i : ℕ) → i < c → inUse t i ≡ true → live i ≡ false → contains dead i ≡ true
+  is-dead i l h e = dead-is t ps .members i .1 (l, h, λ r. not-both (reached-live r) e)
+
+  not-dead : (i : ℕ) → (contains dead i ≡ true → ⊥) → contains dead i ≡ false
+  not-dead i h = ⊎-elim (λ e. absurd (h e)) (λ e. e) (tested (contains dead i))
+
+  live-not-dead : (i : ℕ) → live i ≡ true → contains dead i ≡ false
+  live-not-dead i h = not-dead i (λ e. dead-is t ps .members i .0 e .2 (live-reached i h))
+
+  free-not-dead : (i : ℕ) → inUse t i ≡ false → contains dead i ≡ false
+  free-not-dead i h = not-dead i (λ e. not-both (dead-is t ps .members i .0 e .1) h)
+
+  -- the end of the chain is free
+  not-end : (i : ℕ) → i < c → inUse t i ≡ true → suc i ≢ lastFree t
+  not-end i l h e = not-both h (free-not-in-use t i (chain-free t (f .free) (f .chain) i l (last-occurs (f .free) i (f .chain .ends ∙ sym e))))
+
+  live-words : (i k : ℕ) → i < c → k < stride → k ≢ cellCount → live i ≡ true → wordAt u i k ≡ wordAt t i k
+  live-words i k l m n h = sweep .stands i k m n (live-not-dead i h) (λ _. not-end i l (live-used i h))
+
+  free-words : (i k : ℕ) → k < stride → k ≢ cellCount → k ≢ left → inUse t i ≡ false → wordAt u i k ≡ wordAt t i k
+  free-words i k m n d h = sweep .stands i k m n (free-not-dead i h) (λ e. absurd (d e))
+
+  -- in three ways: reached, dead, free
+  each-sort : (P : ℕ → Type 0) → ((i : ℕ) → live i ≡ true → P i) → ((i : ℕ) → live i ≡ false → inUse t i ≡ true → P i)
+      → ((i : ℕ) → live i ≡ false → inUse t i ≡ false → P i) → (i : ℕ) → P i
+  each-sort P a b d i = ⊎-elim (λ h. a i h) (λ h. ⊎-elim (λ e. b i h e) (λ e. d i h e) (tested (inUse t i))) (tested (live i))
+
+  pub swept-capacity : capacity u ≡ c
+  swept-capacity = sweep .sameCapacity
+
+  -- afterwards the cells in use are those that were reached
+  pub swept-use : (i : ℕ) → i < c → inUse u i ≡ reached t ps i
+  unfolding inUse
+  swept-use = each-sort (λ i. i < c → ltb 0 (wordAt u i state) ≡ live i)
+      (λ i h l. ap (ltb 0) (live-words i state l (omega arith) (omega arith) h) ∙ live-used i h ∙ sym h)
+      (λ i h e l. le-ltb 0 (wordAt u i state) (omega (arith, sweep .freed i state (is-dead i l e h) (omega arith) (omega arith))) ∙ sym h)
+      (λ i h e l. ap (ltb 0) (free-words i state (omega arith) (omega arith) (omega arith) e) ∙ e ∙ sym h)
+
+  used-live : (i : ℕ) → i < c → inUse u i ≡ true → live i ≡ true
+  used-live i l h = sym (swept-use i l) ∙ h
+
+  -- no root count changes: a dead cell is no root
+  pub swept-root : (i : ℕ) → i < c → wordAt u i rootCount ≡ wordAt t i rootCount
+  unfolding isRoot
+  swept-root = each-sort (λ i. i < c → wordAt u i rootCount ≡ wordAt t i rootCount)
+      (λ i h l. live-words i rootCount l (omega arith) (omega arith) h)
+      (λ i h e l. sweep .freed i rootCount (is-dead i l e h) (omega arith) (omega arith) ∙ sym (no-root i l h))
+      (λ i h e l. free-words i rootCount (omega arith) (omega arith) (omega arith) e)
+    where
+      no-root : (i : ℕ) → i < c → live i ≡ false → wordAt t i rootCount ≡ 0
+      no-root i l h =
+          ⊎-elim (λ e. absurd (not-both (reached-live (begun l (or-left (isNamed ps (suc i)) e))) h)) (λ e. let z = ltb-false 0 (wordAt t i rootCount) e in omega arith)
+          (tested (ltb 0 (wordAt t i rootCount)))
+
+  -- a word that was fit and, if a cell, is reached, is fit
+  live-fit : (w : ℕ) → Fit t w → ((i : ℕ) → i < c → w ≡ suc i → live i ≡ true) → Fit u w
+  live-fit w h g = record { legal = rw swept-capacity (h .legal); used = λ i l e. let m : i < c = rw swept-capacity at l in swept-use i m ∙ g i m e }
+
+  named-live : (w i : ℕ) → i < c → w ≡ suc i → isNamed ps w ≡ true → live i ≡ true
+  named-live w i l e n = reached-live (begun l (unfold isRoot in or-right (ltb 0 (wordAt t i rootCount)) (rw e at n)))
+
+  legal-all : (qs : List Packet) → ((w : ℕ) → isNamed qs w ≡ true → isNamed ps w ≡ true) → All (LegalPacket t) qs → All (LegalPacket u) qs
+  unfolding packetLegal isNamed
+  legal-all [] g h = tt
+  legal-all (q ∷ qs) g h = (
+    record {
+      words = rw swept-capacity (h .0 .words);
+      names = λ w n. live-fit w (h .0 .names w n) (λ i l e. named-live w i l e (g w (or-left (isNamed qs w) n)));
+    },
+    legal-all qs (λ w n. g w (or-right (contains (names q) w) n)) (h .1),
+  )
+
+  legal-after : All (LegalPacket u) ps
+  legal-after = legal-all ps (λ w n. n) (f .legal)
+
+  writes-live : All (WritesShown live) ps
+  writes-live = all-map (LegalPacket u) (WritesShown live) ps
+      (λ p h. written-map (WrittenIn u) (λ i k. live i ≡ true) p (λ i k w. used-live i (rw swept-capacity at (w .below)) (w .used)) (legal-written u p h)) legal-after
+
+  field-fits : (i k : ℕ) → i < c → k ≤ right → live i ≡ true → Fit u (wordAt u i k)
+  field-fits i k l m h =
+      rw (live-words i k l (omega arith) (omega arith) h) (live-fit (wordAt t i k) (f .fields i k l m (live-used i h))
+      (λ j b e. reached-live (onward (live-reached i h) b (points-by t i j k m e))))
+
+  -- the chain is longer by the dead cells
+  dead-once : (i : ℕ) → i < c → occurrences i dead ≡ cond (doomed i) 1 0
+  unfolding unreached
+  dead-once i l = select-once c doomed i l
+
+  both-once : (i : ℕ) → i < c → occurrences i (f .free) + occurrences i dead ≡ cond (isFree u i) 1 0
+  unfolding isFree
+  both-once = each-sort (λ i. i < c → occurrences i (f .free) + occurrences i dead ≡ cond (not (inUse u i)) 1 0)
+      (λ i h l. let a = f .chain .once i l in let b = dead-once i l in rw (swept-use i l, h) (omega (arith, rw (live-used i h) at a, rw (live-used i h, h) at b)))
+      (λ i h e l. let a = f .chain .once i l in let b = dead-once i l in rw (swept-use i l, h) (omega (arith, rw e at a, rw (e, h) at b)))
+      (λ i h e l. let a = f .chain .once i l in let b = dead-once i l in rw (swept-use i l, h) (omega (arith, rw e at a, rw e at b)))
+
+  at-most-one : (b : Bool) → cond b 1 0 ≤ 1
+  at-most-one true = omega arith
+  at-most-one false = omega arith
+
+  linked-all : Linked u (firstFree u) (f .free ++ dead) × (lastOf (map suc (f .free ++ dead)) ≡ lastFree u)
+  linked-all = sweep .joined (f .free) (f .chain .linked) (f .chain .ends) (λ i. ⊎-elim (λ l. rw (both-once i l) (at-most-one (isFree u i)))
+      (λ l. omega (arith, none-past c (f .free) (linked-places t (firstFree t) (f .free) (f .chain .linked)) i l, none-past c dead dead-places i l)) (lt-or-ge i c))
+
+  -- a cell that is not reached ends with all but its left 0
+  wiped : (i k : ℕ) → i < c → live i ≡ false → right ≤ k → k ≤ state → wordAt u i k ≡ 0
+  wiped i k l h low high = ⊎-elim (λ e. sweep .freed i k (is-dead i l e h) low high) free (tested (inUse t i))
+    where
+      free : inUse t i ≡ false → wordAt u i k ≡ 0
+      free e = ⊎-elim count (λ d. free-words i k (omega arith) d (omega arith) e ∙ free-zero t ps f i k l e low high) (is-count k)
+        where
+          is-count : (k : ℕ) → (k ≡ cellCount) ⊎ (k ≢ cellCount)
+          is-count k = ⊎-elim (λ d. inl (eqb-true k cellCount d)) (λ d. inr (eqb-false k cellCount d)) (tested (eqb k cellCount))
+
+          count : k ≡ cellCount → wordAt u i k ≡ 0
+          count d = rw d (omega (arith, sweep .lowered i l (free-not-dead i e), free-zero t ps f i cellCount l e (omega arith) (omega arith)))
+
+  chain-after : Chain u (f .free ++ dead)
+  chain-after = record {
+    linked = linked-all .0;
+    ends = linked-all .1;
+    once = rw swept-capacity (λ (i : ℕ) (l : i < c). occurrences-append i (f .free) dead ∙ both-once i l);
+    wiped = rw swept-capacity (λ (i k : ℕ) (l : i < c) (e : isFree u i ≡ true). wiped i k l (sym (swept-use i l) ∙ free-not-in-use u i e));
+  }
+
+  -- the view shows only what is reached
+  shows : Same c (shown u) (mask live (shown t))
+  shows i k l m = ⊎-elim here (λ e. shown-free u i k (swept-use i l ∙ e) ∙ sym (masked live (shown t) i k e)) (tested (live i))
+    where
+      here : live i ≡ true → shown u i k ≡ mask live (shown t) i k
+      here h =
+          shown-used u i k (swept-use i l ∙ h) ∙ live-words i k l (omega arith) (omega arith) h
+          ∙ sym (shown-used t i k (live-used i h)) ∙ sym (unmasked live (shown t) i k h)
+
+  shows-earlier : Same c (earlier (shown u) ps) (mask live (earlier (shown t) ps))
+  shows-earlier i k l m = earlier-same c (shown u) (mask live (shown t)) ps shows i k l m ∙ mask-earlier c live (shown t) ps writes-live i k l m
+
+  -- the pointers out of dead cells are what the oldest stage loses
+  lost : (x : ℕ) → seen c (mask (λ i. not (live i)) (earlier (shown t) ps)) (suc x) ≡ pointersOut t dead (suc x)
+  unfolding seen unreached
+  lost x = total-same c (entries (mask (λ i. not (live i)) e) (suc x)) (λ i. cond (doomed i) (fieldsAt t (suc x) i) 0) at-place ∙ sym (out-select t c doomed (suc x))
+    where
+      e : View
+      e = earlier (shown t) ps
+
+      untouched : (i k : ℕ) → live i ≡ false → e i k ≡ shown t i k
+      untouched = unwritten-earlier c live (shown t) ps writes-live
+
+      at-place : (i : ℕ) → i < c → entries (mask (λ i. not (live i)) e) (suc x) i ≡ cond (doomed i) (fieldsAt t (suc x) i) 0
+      at-place = each-sort (λ i. i < c → entries (mask (λ i. not (live i)) e) (suc x) i ≡ cond (doomed i) (fieldsAt t (suc x) i) 0)
+          (λ i h _. unfold entries mask in rw (h, live-used i h) (omega (arith, nil-no-cell x)))
+          (λ i h d _. unfold entries mask fieldsAt in rw (h, d, untouched i left h, untouched i right h, shown-used t i left d, shown-used t i right d))
+          (λ i h d _. unfold entries mask in rw (h, d, untouched i left h, untouched i right h, shown-free t i left d, shown-free t i right d) (omega (arith, nil-no-cell x)))
+
+  -- no lowering meets 0
+  pub swept-enough : (i : ℕ) → i < c → pointersOut t dead (suc i) ≤ wordAt t i cellCount
+  swept-enough i l = omega (arith, lost i, f .counts i l, seen-split c live (earlier (shown t) ps) i)
+
+  counts-after : (i : ℕ) → i < c → wordAt u i cellCount ≡ seen c (earlier (shown u) ps) (suc i)
+  counts-after i l = ⊎-elim alive gone (tested (live i))
+    where
+      alive : live i ≡ true → wordAt u i cellCount ≡ seen c (earlier (shown u) ps) (suc i)
+      alive h = omega (
+        arith,
+        sweep .lowered i l (live-not-dead i h),
+        f .counts i l,
+        lost i,
+        seen-split c live (earlier (shown t) ps) i,
+        seen-same c (earlier (shown u) ps) (mask live (earlier (shown t) ps)) (suc i) shows-earlier,
+      )
+
+      shown-fit : (j k : ℕ) → j < c → k ≤ right → Fit u (shown u j k)
+      shown-fit j k b m = ⊎-elim (λ e. rw (shown-used u j k e) (field-fits j k b m (used-live j b e))) (λ e. rw (shown-free u j k e) (fit-nil u)) (tested (inUse u j))
+
+      gone : live i ≡ false → wordAt u i cellCount ≡ seen c (earlier (shown u) ps) (suc i)
+      gone h =
+          wiped i cellCount l h (omega arith) (omega arith)
+          ∙ sym (seen-none c (earlier (shown u) ps) (suc i) (λ j k b m e. not-both
+          (earlier-entries (Fit u) c (shown u) ps (fit-nil u) (all-map (LegalPacket u) (Detached (Fit u)) ps (legal-detached u) legal-after) shown-fit j k b m .used i (rw swept-capacity l) e)
+          (swept-use i l ∙ h)))
+
+  pub swept-facts : Facts u ps
+  swept-facts = record {
+    some = rw swept-capacity (f .some);
+    most = rw swept-capacity (f .most);
+    room = rw (swept-capacity, sweep .sameLength) (f .room);
+    states = rw swept-capacity (λ (i : ℕ) (l : i < c). ⊎-elim (λ h. rw (live-words i state l (omega arith) (omega arith) h) (f .states i l))
+        (λ h. omega (arith, wiped i state l h (omega arith) (omega arith))) (tested (live i)));
+    roots = rw swept-capacity (λ (i : ℕ) (l : i < c). rw (swept-root i l) (f .roots i l));
+    cells = rw swept-capacity (λ (i : ℕ) (l : i < c). ⊎-elim (λ h. omega (arith, sweep .lowered i l (live-not-dead i h), f .cells i l))
+        (λ h. omega (arith, wiped i cellCount l h (omega arith) (omega arith))) (tested (live i)));
+    fields = rw swept-capacity (λ (i k : ℕ) (l : i < c) (m : k ≤ right) (e : inUse u i ≡ true). field-fits i k l m (used-live i l e));
+    free = f .free ++ dead;
+    chain = chain-after;
+    legal = legal-after;
+    replay = rw swept-capacity (λ (i : ℕ) (l : i < c). rw (swept-root i l) (f .replay i l));
+    stages = rw swept-capacity (stages-same c (mask live (shown t)) (shown u) ps (λ i k l m. sym (shows i k l m)) (all-placed t ps f)
+        (mask-stages c live (shown t) ps (all-placed t ps f) writes-live (f .stages)));
+    counts = rw swept-capacity counts-after;
+  }
+
+  pub swept-live : Live u ps
+  swept-live i l h =
+      let m : i < c = rw swept-capacity at l in
+      reached-grows t u ps ps swept-capacity roots edges (live-reached i (used-live i m h))
+    where
+      roots : (i : ℕ) → i < c → isRoot t ps i ≡ true → isRoot u ps i ≡ true
+      roots i l e = unfold isRoot in rw (swept-root i l) e
+
+      edges : (j i : ℕ) → Reached t ps j → i < c → pointsTo t j i ≡ true → (pointsTo u j i ≡ true) ⊎ (isRoot u ps i ≡ true)
+      edges j i r l e =
+          let w = points-cases t j i e in
+          let low = w .1 in
+          inl (points-by u j i (w .0) (w .1) (live-words j (w .0) (reached-used t ps f r .0) (omega arith) (omega arith) (reached-live r) ∙ w .2))

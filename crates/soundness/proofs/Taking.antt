@@ -1,0 +1,114 @@
+-- The oldest packet is applied: its changes come to raisings less lowerings, and the stage after it becomes the oldest.
+use mathlib.Core.Path.{_≡_, refl, sym, ap, ap₂, _∙_}
+use mathlib.Core.Logic.{_≢_}
+use mathlib.Core.Bool.{Bool, true, false, cond}
+use mathlib.Core.List.{List, [], _∷_}
+use Prim.Native.Nat.{ℕ, suc, _≤_, _<_}
+use native.Mathlib.Omega.{arith}
+use lib.Dec.{ltb}
+use borrow.Author.Tests.{leb-true}
+use Rattle.machine.specs.Words.{ceiling}
+use Rattle.machine.specs.Table.{stride, left, right, rootCount, cellCount, state, capacity, firstFree, wordAt, inUse}
+use Rattle.machine.specs.Queue.{Packet}
+use Rattle.machine.specs.Packets.{Counter, root, cell, plus, minus, Change, changes, uses}
+use Rattle.machine.specs.Step.{counterWord, moveCount, applyChanges}
+use Rattle.machine.specs.Audit.{replayed}
+use Rattle.machine.proofs.Table.{each-word}
+use Rattle.machine.proofs.Moves.{firstFree-move}
+use Rattle.machine.proofs.Replay.{replays-uses, replays-bound, replays-rest}
+use Rattle.machine.proofs.Kept.{Framed, framed-changes}
+use Rattle.soundness.proofs.ByKind.{lowers-uses, Unmoved, unnamed, unnamed-first, word-applied, count-applied, running-root, running-cell}
+use Rattle.soundness.proofs.Views.{shown, Same, same-sym, all-map, earlier, earlier-same, seen, seen-same, seen-undo, stages-same, stages-within}
+use Rattle.soundness.proofs.Fits.{fit-grows, LegalPacket, legal-grows}
+use Rattle.soundness.proofs.Facts.{Facts, all-placed, free-unnamed}
+use Rattle.soundness.proofs.Appending.{chain-same}
+
+first-applied : (t : List ℕ) (hs : List Change) → firstFree (applyChanges t hs) ≡ firstFree t
+unfolding applyChanges
+first-applied t [] = refl
+first-applied t (h ∷ hs) =
+    first-applied (moveCount t (h .counter) (h .word) (h .direction) (h .amount)) hs ∙ firstFree-move t (h .counter) (h .word) (h .direction) (h .amount)
+
+-- a word that is no count
+no-count : (m : ℕ) → m ≢ rootCount → m ≢ cellCount → (k : Counter) → m ≢ counterWord k
+no-count m r c root = r
+no-count m r c cell = c
+
+module _ (t : List ℕ) (p : Packet) (ps : List Packet) (f : Facts t (p ∷ ps)) where
+  abbrev applied : List ℕ
+  applied = applyChanges t (changes p)
+
+  frame : Framed t applied
+  frame = framed-changes t (changes p) .0
+
+  pub taking-capacity : capacity applied ≡ capacity t
+  taking-capacity = frame .sameCapacity
+
+  stands : (i m : ℕ) → m < stride → m ≢ rootCount → m ≢ cellCount → wordAt applied i m ≡ wordAt t i m
+  stands i m l r c = word-applied t (changes p) i m l (no-count m r c)
+
+  pub taking-use : (i : ℕ) → inUse applied i ≡ inUse t i
+  unfolding inUse
+  taking-use i = ap (ltb 0) (stands i state (omega arith) (omega arith) (omega arith))
+
+  pub taking-fields : (i k : ℕ) → k ≤ right → wordAt applied i k ≡ wordAt t i k
+  taking-fields i k l = stands i k (omega arith) (omega arith) (omega arith)
+
+  enough : (i : ℕ) → i < capacity t → uses p (suc i) ≤ wordAt t i rootCount
+  enough i l = leb-true (uses p (suc i)) (wordAt t i rootCount) (replays-uses (suc i) (wordAt t i rootCount) p ps (f .replay i l))
+
+  -- root counts go on as in the replay
+  pub taking-root : (i : ℕ) → i < capacity t → wordAt applied i rootCount ≡ replayed (suc i) p (wordAt t i rootCount)
+  unfolding replayed
+  taking-root i l = count-applied t (changes p) root i (f .room) l ∙ running-root p (suc i) (wordAt t i rootCount) (omega (arith, enough i l, lowers-uses p (suc i)))
+
+  -- cell counts become the pointers at the next stage
+  pub taking-cell : (i : ℕ) → i < capacity t → wordAt applied i cellCount ≡ seen (capacity t) (earlier (shown t) ps) (suc i)
+  unfolding earlier
+  taking-cell i l =
+      let e = count-applied t (changes p) cell i (f .room) l ∙ running-cell p (suc i) (wordAt t i cellCount) in
+      omega (arith, f .counts i l, seen-undo (capacity t) (earlier (shown t) ps) p i (all-placed t (p ∷ ps) f .0) (f .stages .1))
+
+  -- a free cell is not named, so none of its words changes
+  free-still : (i : ℕ) → i < capacity t → inUse t i ≡ false → Unmoved p (suc i)
+  free-still i l u = unnamed p (suc i) (unnamed-first p ps (suc i) (free-unnamed t (p ∷ ps) f i l u))
+
+  free-words : (i k : ℕ) → i < capacity t → k < stride → inUse t i ≡ false → wordAt applied i k ≡ wordAt t i k
+  free-words i k l m u =
+      let s = free-still i l u in
+      let r = count-applied t (changes p) root i (f .room) l ∙ running-root p (suc i) (wordAt t i rootCount) (omega (arith, s .still root minus)) in
+      let c = count-applied t (changes p) cell i (f .room) l ∙ running-cell p (suc i) (wordAt t i cellCount) in
+      each-word (λ n. wordAt applied i n ≡ wordAt t i n) (taking-fields i left (omega arith)) (taking-fields i right (omega arith))
+      (omega (arith, s .still root plus, s .still root minus)) (omega (arith, s .still cell plus, s .still cell minus))
+      (stands i state (omega arith) (omega arith) (omega arith)) k m
+
+  taking-shown : Same (capacity t) (shown applied) (shown t)
+  unfolding shown
+  taking-shown i k l m = ap₂ (λ (b : Bool) (w : ℕ). cond b w 0) (taking-use i) (taking-fields i k m)
+
+  pub taking-facts : Facts applied ps
+  taking-facts = record {
+    some = rw taking-capacity (f .some);
+    most = rw taking-capacity (f .most);
+    room = rw (taking-capacity, frame .sameLength) (f .room);
+    states = λ i l. rw (stands i state (omega arith) (omega arith) (omega arith)) (f .states i (rw taking-capacity at l));
+    roots = λ i l. let m : i < c = rw taking-capacity at l in
+        rw (taking-root i m) (leb-true (replayed (suc i) p (wordAt t i rootCount)) ceiling (replays-bound (suc i) (wordAt t i rootCount) p ps (f .replay i m)));
+    cells = λ i l. let m : i < c = rw taking-capacity at l in rw (taking-cell i m) (stages-within c (shown t) ps (f .stages .0) i m);
+    fields = λ i k l m u. rw (taking-fields i k m) (fit-grows t applied (wordAt t i k) taking-capacity keeps (f .fields i k (rw taking-capacity at l) m (sym (taking-use i) ∙ u)));
+    free = f .free;
+    chain = chain-same t applied (f .free) taking-capacity (first-applied t (changes p)) (framed-changes t (changes p) .1) (λ i _. taking-use i) free-words (f .chain);
+    legal = all-map (LegalPacket t) (LegalPacket applied) ps (λ r. legal-grows t applied r taking-capacity keeps) (f .legal .1);
+    replay = λ i l. let m : i < c = rw taking-capacity at l in rw (taking-root i m) (replays-rest (suc i) (wordAt t i rootCount) p ps (f .replay i m));
+    stages = rw taking-capacity (stages-same c (shown t) (shown applied) ps same (all-placed t (p ∷ ps) f .1) (f .stages .0));
+    counts = rw taking-capacity (λ (i : ℕ) (l : i < c). taking-cell i l ∙ seen-same c (earlier (shown t) ps) (earlier (shown applied) ps) (suc i) (earlier-same c (shown t) (shown applied) ps same));
+  }
+    where
+      c : ℕ
+      c = capacity t
+
+      same : Same c (shown t) (shown applied)
+      same = same-sym c (shown applied) (shown t) taking-shown
+
+      keeps : (i : ℕ) → i < capacity t → inUse t i ≡ true → inUse applied i ≡ true
+      keeps i _ u = taking-use i ∙ u

@@ -1,0 +1,127 @@
+-- On a sound store nothing is trimmed.
+use mathlib.Core.Path.{_≡_, refl}
+use mathlib.Core.Logic.{_⊎_, inl, inr, ⊎-elim}
+use mathlib.Core.Bool.{true, false, cond, false≢true}
+use mathlib.Core.List.{List, [], _∷_}
+use Prim.Native.Nat.{ℕ, suc, _+_, _-_, _≤_, _<_}
+use native.Mathlib.Omega.{arith}
+use lib.Dec.{eqb, leb}
+use lib.ListN.{length}
+use borrow.Author.Tests.{eqb-true, eqb-false, leb-true, leb-false}
+use Rattle.machine.specs.declared.Queue.{Queue}
+use Rattle.machine.specs.Range.{matching}
+use Rattle.machine.specs.Words.{ceiling}
+use Rattle.machine.specs.Table.{rootCount, cellCount, capacity, tableLength, wordAt}
+use Rattle.machine.specs.Queue.{Packet, waiting}
+use Rattle.machine.specs.Packets.{Kind, reads, makes, replaces, raises, lowers, unknown, kindOf, Counter, root, cell, plus, minus, Change, changesOf, changes, movedBy, uses, usesOf, sameCounter}
+use Rattle.machine.specs.Step.{counterWord, shifted, moveCount, applyChanges}
+use Rattle.machine.specs.Audit.{Sound, replayed}
+use Rattle.machine.proofs.Range.{tested, matching-same, matching-other}
+use Rattle.machine.proofs.Moves.{length-move, capacity-move}
+use Rattle.machine.proofs.Replay.{replays-uses, replays-bound}
+use Rattle.soundness.specs.Untrimmed.{Lowers, ByItself, AllPass, Untrimmed}
+use Rattle.soundness.proofs.ByKind.{count-change}
+use Rattle.soundness.proofs.Views.{shown, earlier, seen-undo, stages-within}
+use Rattle.soundness.proofs.Facts.{Facts, sound-facts, all-placed}
+use Rattle.soundness.proofs.Taking.{taking-capacity, taking-facts}
+use Rattle.soundness.proofs.Sweeping.{swept-enough}
+
+-- one counter of one cell, run through the changes: each lowering is met, and P holds of each number on the way
+abbrev Runs : (ℕ → Type 0) → Counter → ℕ → List Change → ℕ → Type 0
+Runs P k x [] n = Unit {0}
+Runs P k x (h ∷ hs) n =
+    (sameCounter k (h .counter) ≡ true → Lowers (h .direction) n (matching (h .word) x (h .amount)))
+    × P (cond (sameCounter k (h .counter)) (shifted (h .direction) n (matching (h .word) x (h .amount))) n)
+    × Runs P k x hs (cond (sameCounter k (h .counter)) (shifted (h .direction) n (matching (h .word) x (h .amount))) n)
+
+-- a word that is x, or the number 0
+matching-cases : (w x n : ℕ) → ((w ≡ x) × (matching w x n ≡ n)) ⊎ (matching w x n ≡ 0)
+matching-cases w x n = ⊎-elim (λ e. let d = eqb-true w x e in inl (d, matching-same w x n d)) (λ e. inr (matching-other w x n (eqb-false w x e))) (tested (eqb w x))
+
+runs-root : (k : Kind) (a b c x n : ℕ) → usesOf k a b c x ≤ n → n ≤ ceiling → n + movedBy root plus x (changesOf k a b) - movedBy root minus x (changesOf k a b) ≤ ceiling
+    → Runs (λ m. m ≤ ceiling) root x (changesOf k a b) n
+unfolding changesOf movedBy usesOf
+runs-root reads a b c x n u l h = (λ _. u, omega arith, (λ _. tt, omega arith, tt))
+runs-root makes a b c x n u l h = (λ _. omega arith, omega arith, (λ _. omega arith, omega arith, (λ _. tt, omega arith, (λ _. tt, omega arith, tt))))
+runs-root (replaces m) a b c x n u l h = (λ _. omega arith, omega arith, (λ _. tt, omega arith, (λ (e : false ≡ true). absurd (false≢true e), omega arith, tt)))
+runs-root raises a b c x n u l h = (λ _. tt, omega arith, tt)
+runs-root lowers a b c x n u l h = (λ _. u, omega arith, tt)
+runs-root unknown a b c x n u l h = tt
+
+-- a cell count in passing
+abbrev Stands : Kind → ℕ → ℕ → ℕ → ℕ → Type 0
+Stands k a b x m = (m ≤ ceiling) ⊎ ((m ≡ suc ceiling) × ByItself k a b x)
+
+runs-cell : (k : Kind) (a b x n : ℕ) → n ≤ ceiling → movedBy cell minus x (changesOf k a b) ≤ n + movedBy cell plus x (changesOf k a b)
+    → n + movedBy cell plus x (changesOf k a b) - movedBy cell minus x (changesOf k a b) ≤ ceiling
+    → Runs (Stands k a b x) cell x (changesOf k a b) n
+unfolding changesOf movedBy
+runs-cell reads a b x n l m h = (λ (e : false ≡ true). absurd (false≢true e), inl l, (λ _. tt, inl l, tt))
+runs-cell makes a b x n l m h =
+    (λ (e : false ≡ true). absurd (false≢true e), inl l, (λ (e : false ≡ true). absurd (false≢true e), inl l, (λ _. tt, inl (omega arith), (λ _. tt, inl (omega arith), tt))))
+runs-cell (replaces f) a b x n l m h =
+    (λ (e : false ≡ true). absurd (false≢true e), inl l, (λ _. tt, raised (matching-cases a x 1) (matching-cases b x 1), (λ _. omega arith, inl (omega arith), tt)))
+  where
+    raised : ((a ≡ x) × (matching a x 1 ≡ 1)) ⊎ (matching a x 1 ≡ 0) → ((b ≡ x) × (matching b x 1 ≡ 1)) ⊎ (matching b x 1 ≡ 0) → Stands (replaces f) a b x (n + matching a x 1)
+    raised (inl e) (inl d) = both (tested (leb (n + matching a x 1) ceiling))
+      where
+        both : (leb (n + matching a x 1) ceiling ≡ true) ⊎ (leb (n + matching a x 1) ceiling ≡ false) → Stands (replaces f) a b x (n + matching a x 1)
+        both (inl y) = inl (leb-true (n + matching a x 1) ceiling y)
+        both (inr y) = inr (omega (arith, leb-false (n + matching a x 1) ceiling y, e .1), (e .0, d .0))
+    raised (inl e) (inr d) = inl (omega (arith, e .1))
+    raised (inr e) (inl d) = inl (omega arith)
+    raised (inr e) (inr d) = inl (omega arith)
+runs-cell raises a b x n l m h = (λ (e : false ≡ true). absurd (false≢true e), inl l, tt)
+runs-cell lowers a b x n l m h = (λ (e : false ≡ true). absurd (false≢true e), inl l, tt)
+runs-cell unknown a b x n l m h = tt
+
+-- what is run for each counter of each cell is what the table passes through
+runs-pass : (p : Packet) (t : List ℕ) (hs : List Change) → tableLength (capacity t) ≤ length t
+    → ((i : ℕ) → i < capacity t → Runs (λ m. m ≤ ceiling) root (suc i) hs (wordAt t i rootCount))
+    → ((i : ℕ) → i < capacity t → Runs (Stands (kindOf (p .kind)) (p .a) (p .b) (suc i)) cell (suc i) hs (wordAt t i cellCount))
+    → AllPass p t hs
+runs-pass p t [] f r c = tt
+runs-pass p t (h ∷ hs) f r c =
+    let same = capacity-move t (h .counter) (h .word) (h .direction) (h .amount) in (
+      record {
+        lowers = λ i l. met (h .counter) refl i l;
+        roots = λ i l. rw (count-change t h root i f l) (r i l .1);
+        cells = λ i l. rw (count-change t h cell i f l) (c i l .1);
+      },
+      runs-pass p (moveCount t (h .counter) (h .word) (h .direction) (h .amount)) hs (rw (same, length-move t (h .counter) (h .word) (h .direction) (h .amount)) f)
+          (λ i l. let m : i < capacity t = rw same at l in rw (count-change t h root i f m) (r i m .2))
+          (λ i l. let m : i < capacity t = rw same at l in rw (count-change t h cell i f m) (c i m .2)),
+    )
+  where
+    met : (k : Counter) → h .counter ≡ k → (i : ℕ) → i < capacity t → Lowers (h .direction) (wordAt t i (counterWord k)) (matching (h .word) (suc i) (h .amount))
+    met root e i l = r i l .0 (rw e)
+    met cell e i l = c i l .0 (rw e)
+
+module _ (t : List ℕ) (p : Packet) (ps : List Packet) (f : Facts t (p ∷ ps)) where
+  root-runs : (i : ℕ) → i < capacity t → Runs (λ m. m ≤ ceiling) root (suc i) (changes p) (wordAt t i rootCount)
+  unfolding changes
+  root-runs i l =
+      runs-root (kindOf (p .kind)) (p .a) (p .b) (p .c) (suc i) (wordAt t i rootCount)
+      (unfold uses in leb-true (uses p (suc i)) (wordAt t i rootCount) (replays-uses (suc i) (wordAt t i rootCount) p ps (f .replay i l))) (f .roots i l)
+      (unfold replayed in leb-true (replayed (suc i) p (wordAt t i rootCount)) ceiling (replays-bound (suc i) (wordAt t i rootCount) p ps (f .replay i l)))
+
+  cell-runs : (i : ℕ) → i < capacity t → Runs (Stands (kindOf (p .kind)) (p .a) (p .b) (suc i)) cell (suc i) (changes p) (wordAt t i cellCount)
+  unfolding changes earlier
+  cell-runs i l =
+      let s = seen-undo (capacity t) (earlier (shown t) ps) p i (all-placed t (p ∷ ps) f .0) (f .stages .1) in
+      let e = f .counts i l in
+      runs-cell (kindOf (p .kind)) (p .a) (p .b) (suc i) (wordAt t i cellCount) (f .cells i l) (omega arith) (omega (arith, stages-within (capacity t) (shown t) ps (f .stages .0) i l))
+
+  untrimmed-facts : Untrimmed t p ps
+  untrimmed-facts =
+      let g = taking-facts t p ps f in
+      let same = taking-capacity t p ps f in
+      record {
+        passing = runs-pass p t (changes p) (f .room) root-runs cell-runs;
+        roots = λ i l. g .roots i (rw same l);
+        cells = λ i l. g .cells i (rw same l);
+        freeing = λ i l. swept-enough (applyChanges t (changes p)) ps g i (rw same l);
+      }
+
+pub untrimmed : (t : List ℕ) (q : Queue) (p : Packet) (ps : List Packet) → Sound t q → waiting q ≡ p ∷ ps → Untrimmed t p ps
+untrimmed t q p ps s e = untrimmed-facts t p ps (rw e at (sound-facts t q s))

@@ -1,0 +1,5 @@
+-- What is proved of the machine over lists of calls.
+pub mod Demand3
+pub mod Untrimmed
+pub mod Links
+pub mod Shortcuts

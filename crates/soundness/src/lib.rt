@@ -1,0 +1,1 @@
+// Theorems alone: specs/ states demand 3, proofs/ proves it.
