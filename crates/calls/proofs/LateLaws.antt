@@ -23,19 +23,19 @@ use Rattle.calls.specs.declared.operands.Tally.{Tally}
 use Rattle.calls.specs.Tests.{raisedWords, countWithin, raisedWithin, freeByEnd, codeLate}
 use Rattle.calls.specs.Tally.{TallyOf, held, readNumber, consNumber, replaceNumber, upNumber, downNumber}
 
-bool-same : (a b : Bool) → (a ≡ true → b ≡ true) → (b ≡ true → a ≡ true) → a ≡ b
+pub bool-same : (a b : Bool) → (a ≡ true → b ≡ true) → (b ≡ true → a ≡ true) → a ≡ b
 bool-same true b f g = sym (f refl)
 bool-same false true f g = g refl
 bool-same false false f g = refl
 
-everyOf-at : (ws : List ℕ) (p : ℕ → Bool) (w : ℕ) → everyOf ws p ≡ true → contains ws w ≡ true → p w ≡ true
+pub everyOf-at : (ws : List ℕ) (p : ℕ → Bool) (w : ℕ) → everyOf ws p ≡ true → contains ws w ≡ true → p w ≡ true
 unfolding everyOf contains
 everyOf-at [] p w h m = absurd (false≢true m)
 everyOf-at (v ∷ ws) p w h m =
     ⊎-elim (λ (e : eqb v w ≡ true). rw (eqb-true v w e) at (and-first (p v) (everyOf ws p) h)) (λ e. everyOf-at ws p w (and-second (p v) (everyOf ws p) h) e)
     (or-true (eqb v w) (contains ws w) m)
 
-everyOf-all : (ws : List ℕ) (p : ℕ → Bool) → ((w : ℕ) → contains ws w ≡ true → p w ≡ true) → everyOf ws p ≡ true
+pub everyOf-all : (ws : List ℕ) (p : ℕ → Bool) → ((w : ℕ) → contains ws w ≡ true → p w ≡ true) → everyOf ws p ≡ true
 unfolding everyOf contains
 everyOf-all [] p f = refl
 everyOf-all (v ∷ ws) p f = and-both (f v (or-left (contains ws v) (eq-eqb v v refl))) (everyOf-all ws p (λ w m. f w (or-right (eqb v w) m)))

@@ -73,11 +73,11 @@ number-bound t q r =
     (omega arith, (omega arith, ten-append (freeByEnd (kindOf (packetOf t r .kind)) t) _ (ten-free (kindOf (packetOf t r .kind)) t) (omega arith, (omega arith, tt)))))
 
 module _ (t : List ℕ) (q : Queue) (r : RowCall) where
-  outcome-refused : (n : ℕ) → firstNo (codeQuestions t q r) ≡ suc n → outcomeOf t q r ≡ outcome (refused (suc n)) (store t q [])
+  pub outcome-refused : (n : ℕ) → firstNo (codeQuestions t q r) ≡ suc n → outcomeOf t q r ≡ outcome (refused (suc n)) (store t q [])
   unfolding outcomeOf answered
   outcome-refused n e = rw e
 
-  outcome-done : firstNo (codeQuestions t q r) ≡ 0 → outcomeOf t q r ≡ outcome (value (valueOf t r)) (store (written t r) (appended q (packetOf t r)) [])
+  pub outcome-done : firstNo (codeQuestions t q r) ≡ 0 → outcomeOf t q r ≡ outcome (value (valueOf t r)) (store (written t r) (appended q (packetOf t r)) [])
   unfolding outcomeOf answered accepted
   outcome-done e = rw e
 

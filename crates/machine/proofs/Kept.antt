@@ -25,11 +25,11 @@ use Rattle.machine.proofs.Sweep.{sweeps}
 use Rattle.machine.proofs.Select.{select-places}
 use Rattle.machine.proofs.Asked.{AllYes, firstNo-append, firstNo-none, firstNo-number, firstNo-all, early-numbered, Shape, shape-is}
 
-machine-refused : (s : Store) (call : Call) (n : ℕ) → firstNo (questions s call) ≡ suc n → machine s call ≡ outcome (refused (suc n)) s
+pub machine-refused : (s : Store) (call : Call) (n : ℕ) → firstNo (questions s call) ≡ suc n → machine s call ≡ outcome (refused (suc n)) s
 unfolding machine answered
 machine-refused s call n h = rw h
 
-machine-accepted : (s : Store) (call : Call) → firstNo (questions s call) ≡ 0 → machine s call ≡ accepted s call
+pub machine-accepted : (s : Store) (call : Call) → firstNo (questions s call) ≡ 0 → machine s call ≡ accepted s call
 unfolding machine answered
 machine-accepted s call h = rw h
 
@@ -179,7 +179,7 @@ untouched-step s (p ∷ ps) h =
     (rw (c .0 .sameCapacity) (length-cleared (capacity t) (s .scratch) (scratch-room s (h .1 .0))))
     (rw (c .0 .sameCapacity) (drop-cleared (capacity t) (s .scratch)))
 
-bounded-accepted : (s : Store) (call : Call) → AllYes (early s call) → Bounded call s (accepted s call .after)
+pub bounded-accepted : (s : Store) (call : Call) → AllYes (early s call) → Bounded call s (accepted s call .after)
 unfolding accepted stepped audited early
 bounded-accepted s (fresh c) h = tt
 bounded-accepted s (row r) h = untouched s (written (s .table) r) _ (s .scratch) (framed-written s r h) refl refl
@@ -188,7 +188,7 @@ bounded-accepted s audit h =
     untouched s (s .table) _ (cleared (capacity (s .table)) (s .scratch)) (framed-refl (s .table))
     (length-cleared (capacity (s .table)) (s .scratch) (scratch-room s (h .1 .0))) (drop-cleared (capacity (s .table)) (s .scratch))
 
-bounded-same : (s : Store) (call : Call) → Bounded call s s
+pub bounded-same : (s : Store) (call : Call) → Bounded call s s
 bounded-same s (fresh c) = tt
 bounded-same s (row r) = unmoved s
 bounded-same s step = unmoved s

@@ -1,0 +1,3 @@
+-- From what calls, collector and audit prove to the promise, by soundness.
+pub mod RowTests
+pub mod RowPromise

@@ -1,0 +1,132 @@
+-- What `calls` proves of a row call and of fresh is the promise.
+use mathlib.Core.Path.{_≡_, refl, sym, ap, ap₂, subst₂, _∙_}
+use mathlib.Core.Logic.{_⊎_, inl, inr, ⊎-elim}
+use mathlib.Core.Bool.{Bool, true}
+use mathlib.Core.List.{List, [], _∷_, _++_}
+use Prim.Native.Nat.{ℕ, zero, suc}
+use native.Mathlib.Omega.{arith}
+use Rattle.machine.specs.declared.Queue.{Queue}
+use Rattle.machine.specs.declared.RowAnswer.{RowAnswer}
+use Rattle.machine.specs.declared.FreshAnswer.{FreshAnswer}
+use Rattle.machine.specs.Queue.{appended}
+use Rattle.machine.specs.Packets.{kindOf, contains}
+use Rattle.machine.specs.Calls.{RowCall, car, cdr, cons, setLeft, setRight, up, down, Call, row, fresh, Reply, value, refused, Store, store, packetOf, written, valueOf}
+use Rattle.machine.specs.Step.{Outcome, outcome}
+use Rattle.machine.specs.Questions.{Question, ask, firstNo, early, askFree, lateRow, late, questions}
+use Rattle.machine.specs.Audit.{Sound}
+use Rattle.machine.specs.Machine.{accepted, answered, machine}
+use Rattle.machine.specs.Answers.{rowReply, freshReply}
+use Rattle.machine.specs.Promise.{Untouched, Bounded, numbers, Promise}
+use Rattle.machine.proofs.Ring.{Arrays}
+use Rattle.machine.proofs.Asked.{Numbered, AllYes, firstNo-append, firstNo-none, firstNo-number, firstNo-all, early-numbered}
+use Rattle.machine.proofs.Kept.{machine-accepted, machine-refused, kept, bounded-accepted, bounded-same}
+use Rattle.calls.specs.Tests.{freeByEnd, codeLate, codeQuestions}
+use Rattle.calls.specs.Called.{outcomeOf, RowCalled, FreshCalled}
+use Rattle.calls.proofs.RowLaws.{outcome-refused, outcome-done}
+use Rattle.store.proofs.RowTests.{questions-same}
+
+-- the code's later questions carry the paper's numbers
+numbers-same : (t : List ℕ) (q : Queue) (r : RowCall) → numbers (codeLate t q (packetOf t r)) ≡ numbers (lateRow t q r)
+unfolding numbers codeLate lateRow freeByEnd askFree packetOf kindOf
+numbers-same t q (car x) = refl
+numbers-same t q (cdr x) = refl
+numbers-same t q (cons x y) = refl
+numbers-same t q (setLeft x y) = refl
+numbers-same t q (setRight x y) = refl
+numbers-same t q (up x n) = refl
+numbers-same t q (down x n) = refl
+
+module _ (t : List ℕ) (q : Queue) (r : RowCall) (a : RowAnswer) (t′ : List ℕ) (q′ : Queue) (h : RowCalled t q r a t′ q′) where
+  abbrev s : Store
+  s = store t q []
+
+  abbrev s′ : Store
+  s′ = store t′ q′ []
+
+  -- refused by the code's first "no", with nothing changed
+  refused-whole : (n : ℕ) → firstNo (codeQuestions t q r) ≡ suc n → (rowReply a ≡ refused (suc n)) × (s′ ≡ s)
+  refused-whole n e =
+      let o = outcome-refused t q r n e in (
+        h .reply ∙ ap (λ (x : Outcome). x .reply) o,
+        ap₂ (λ (u : List ℕ) (v : Queue). store u v []) (h .table ∙ ap (λ (x : Outcome). x .after .table) o) (h .queue ∙ ap (λ (x : Outcome). x .after .queue) o),
+      )
+
+  -- or done as the machine does it
+  done-whole : firstNo (codeQuestions t q r) ≡ 0 → (rowReply a ≡ accepted s (row r) .reply) × (s′ ≡ accepted s (row r) .after)
+  unfolding accepted
+  done-whole e =
+      let o = outcome-done t q r e in (
+        h .reply ∙ ap (λ (x : Outcome). x .reply) o,
+        ap₂ (λ (u : List ℕ) (v : Queue). store u v []) (h .table ∙ ap (λ (x : Outcome). x .after .table) o) (h .queue ∙ ap (λ (x : Outcome). x .after .queue) o),
+      )
+
+  row-asked : (n : ℕ) → firstNo (early s (row r)) ≡ suc n → (rowReply a ≡ refused (suc n)) × (s′ ≡ s)
+  unfolding codeQuestions
+  row-asked n e = refused-whole n (firstNo-append (early s (row r)) (codeLate t q (packetOf t r)) n e)
+
+  row-refusal : (n : ℕ) → firstNo (early s (row r)) ≡ 0 → rowReply a ≡ refused n → (contains (numbers (late s (row r))) n ≡ true) × (s′ ≡ s)
+  unfolding codeQuestions late accepted
+  row-refusal n e k = go (firstNo (codeLate t q (packetOf t r))) refl
+    where
+      whole : firstNo (codeQuestions t q r) ≡ firstNo (codeLate t q (packetOf t r))
+      whole = firstNo-none (early s (row r)) (codeLate t q (packetOf t r)) (early-numbered s (row r)) e
+
+      clash : {v m : ℕ} → value v ≡ refused m → ⊥
+      clash d = let z : _≡_ {A = ℕ} 0 1 = cc in omega arith
+
+      same : {m l : ℕ} → refused m ≡ refused l → m ≡ l
+      same d = cc
+
+      go : (m : ℕ) → firstNo (codeLate t q (packetOf t r)) ≡ m → (contains (numbers (lateRow t q r)) n ≡ true) × (s′ ≡ s)
+      go zero d = absurd (clash (sym (done-whole (whole ∙ d) .0) ∙ k))
+      go (suc m) d =
+          let w = refused-whole m (whole ∙ d) in
+          let number : suc m ≡ n = same (sym (w .0) ∙ k) in
+          (rw (numbers-same t q r) at (rw number at (firstNo-number (codeLate t q (packetOf t r)) m d)), w .1)
+
+  row-exact : Arrays q → Sound t q → (rowReply a ≡ machine s (row r) .reply) × (s′ ≡ machine s (row r) .after)
+  row-exact arrays sound = go (firstNo (codeQuestions t q r)) refl
+    where
+      e : firstNo (questions s (row r)) ≡ firstNo (codeQuestions t q r)
+      e = sym (questions-same t q sound arrays r)
+
+      go : (n : ℕ) → firstNo (codeQuestions t q r) ≡ n → (rowReply a ≡ machine s (row r) .reply) × (s′ ≡ machine s (row r) .after)
+      go zero d = rw (machine-accepted s (row r) (e ∙ d)) (done-whole d)
+      go (suc n) d = rw (machine-refused s (row r) n (e ∙ d)) (refused-whole n d)
+
+  row-bounded : Untouched s s′
+  unfolding codeQuestions
+  row-bounded = go (firstNo (codeQuestions t q r)) refl
+    where
+      yes : firstNo (codeQuestions t q r) ≡ 0 → (m : ℕ) → firstNo (early s (row r)) ≡ m → AllYes (early s (row r))
+      yes d zero e = firstNo-all (early s (row r)) (early-numbered s (row r)) e
+      yes d (suc m) e = absurd (omega (arith, firstNo-append (early s (row r)) (codeLate t q (packetOf t r)) m e))
+
+      go : (n : ℕ) → firstNo (codeQuestions t q r) ≡ n → Untouched s s′
+      go zero d = rw (done-whole d .1) (bounded-accepted s (row r) (yes d (firstNo (early s (row r))) refl))
+      go (suc n) d = rw (refused-whole n d .1) (bounded-same s (row r))
+
+  pub row-promise : Arrays q → Promise s (row r) (rowReply a) s′
+  row-promise arrays = record {
+    asked = row-asked;
+    refusal = row-refusal;
+    exact = row-exact arrays;
+    bounded = row-bounded;
+  }
+
+-- whoever gives the machine's own reply and store keeps the promise
+pub machine-promise : (s : Store) (call : Call) (r : Reply) (s′ : Store) → r ≡ machine s call .reply → s′ ≡ machine s call .after → Promise s call r s′
+machine-promise s call r s′ e d = subst₂ (λ (x : Reply) (y : Store). Promise s call x y) (sym e) (sym d) (kept s call)
+
+-- fresh is the machine's on every store
+pub fresh-promise : (t : List ℕ) (q : Queue) (c : ℕ) (a : FreshAnswer) (t′ : List ℕ) (q′ : Queue) → FreshCalled t q c a t′ q′ → Promise (store t q []) (fresh c) (freshReply a) (store t′ q′ [])
+unfolding machine answered accepted
+fresh-promise t q c a t′ q′ h = machine-promise (store t q []) (fresh c) (freshReply a) (store t′ q′ []) (h .reply)
+    (whole (machine (store t q []) (fresh c) .after) (h .table) (h .queue) (no-scratch (firstNo (questions (store t q []) (fresh c)))))
+  where
+    no-scratch : (n : ℕ) → answered n (store t q []) (fresh c) .after .scratch ≡ []
+    no-scratch zero = refl
+    no-scratch (suc n) = refl
+
+    whole : (u : Store) → t′ ≡ u .table → q′ ≡ u .queue → u .scratch ≡ [] → store t′ q′ [] ≡ u
+    whole u e d k = λ i. record { table = e i; queue = d i; scratch = sym k i }

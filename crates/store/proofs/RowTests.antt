@@ -1,0 +1,157 @@
+-- On a sound store the code's questions of a row call have the paper's answers.
+use mathlib.Core.Path.{_≡_, refl, sym, ap, ap₂, _∙_}
+use mathlib.Core.Logic.{⊎-elim, _↔_}
+use mathlib.Core.Bool.{Bool, true, false, cond, not, _&&_, _||_, false≢true}
+use mathlib.Core.List.{List, [], _∷_, _++_}
+use Prim.Native.Nat.{ℕ, zero, suc, pred, _+_, _≤_, _<_}
+use native.Mathlib.Omega.{arith}
+use lib.Dec.{leb, eqb}
+use borrow.Author.Tests.{leb-true, le-leb, eqb-true, eqb-false, ltb-true, not-true}
+use Rattle.machine.specs.declared.Queue.{Queue}
+use Rattle.machine.specs.Range.{matching, everyOf}
+use Rattle.machine.specs.Words.{isCell, ceiling}
+use Rattle.machine.specs.Table.{capacity, firstFree, wordAt, rootCount, cellCount}
+use Rattle.machine.specs.Queue.{Packet, slots, appended, waiting}
+use Rattle.machine.specs.Packets.{Counter, root, cell, Direction, plus, minus, Change, kindOf, changes, sameCounter, sameDirection, movedBy, waitingChange, contains}
+use Rattle.machine.specs.Calls.{RowCall, car, cdr, cons, setLeft, setRight, up, down, row, store, packetOf, written}
+use Rattle.machine.specs.Step.{counterWord}
+use Rattle.machine.specs.Questions.{Question, ask, firstNo, refusedBy, heldEnough, slotEmpty, cellFree, heldWithin, pointersWithin, earlyRow, early, askFree, lateRow, late, questions}
+use Rattle.machine.specs.Audit.{Sound}
+use Rattle.machine.proofs.Range.{tested, not-both, lt-or-ge, or-left, or-right, matching-other}
+use Rattle.machine.proofs.Words.{cell-place, cell-number, place-cell}
+use Rattle.machine.proofs.Ring.{Arrays}
+use Rattle.machine.proofs.Asked.{Numbered, AllYes, firstNo-append, firstNo-none, firstNo-all, early-numbered}
+use Rattle.soundness.proofs.CodeTests.{pointers-counted, first-free, held-most, pointers-most}
+use Rattle.soundness.proofs.RowAsked.{held-test}
+use Rattle.soundness.proofs.Raised.{Fits, question9, question10}
+use Rattle.calls.specs.Tests.{raisedWords, countWithin, raisedWithin, freeByEnd, codeLate, codeQuestions}
+use Rattle.calls.proofs.LateLaws.{bool-same, everyOf-at, everyOf-all}
+
+-- a word that a list of changes raises by something is among its raised words
+raised-contains : (k : Counter) (x : ℕ) (hs : List Change) → 0 < movedBy k plus x hs → contains (raisedWords k hs) x ≡ true
+unfolding movedBy raisedWords contains
+raised-contains k x [] l = absurd (omega arith)
+raised-contains k x (h ∷ hs) l = ⊎-elim (λ b. raised b (raised-contains k x hs)) (λ b. other b (raised-contains k x hs)) (tested test)
+  where
+    test : Bool
+    test = sameCounter k (h .counter) && sameDirection plus (h .direction)
+
+    raised : test ≡ true → (0 < movedBy k plus x hs → contains (raisedWords k hs) x ≡ true) → contains (cond test (h .word ∷ []) [] ++ raisedWords k hs) x ≡ true
+    raised b ih =
+        let m : 0 < matching (h .word) x (h .amount) + movedBy k plus x hs = rw b at l in
+        rw b (⊎-elim (λ e. or-left (contains (raisedWords k hs) x) e)
+        (λ e. or-right (eqb (h .word) x) (ih (omega (arith, matching-other (h .word) x (h .amount) (eqb-false (h .word) x e))))) (tested (eqb (h .word) x)))
+
+    other : test ≡ false → (0 < movedBy k plus x hs → contains (raisedWords k hs) x ≡ true) → contains (cond test (h .word ∷ []) [] ++ raisedWords k hs) x ≡ true
+    other b ih =
+        let m : 0 < 0 + movedBy k plus x hs = rw b at l in
+        rw b (ih (omega arith))
+
+-- on a sound store each counter with its waiting changes is within the ceiling before a call
+within-before : (t : List ℕ) (q : Queue) → Sound t q → (k : Counter) (i : ℕ) → i < capacity t
+    → wordAt t i (counterWord k) + waitingChange k plus (suc i) (waiting q) ≤ ceiling + waitingChange k minus (suc i) (waiting q)
+within-before t q s root i l = held-most t q s i l
+within-before t q s cell i l = omega (arith, pointers-counted t q s i l, pointers-most t q s i l)
+
+-- the code's test for questions 9 and 10, as plain facts
+raised-is : (t : List ℕ) (q : Queue) → Sound t q → (p : Packet) (k : Counter)
+    → (raisedWithin k t (waiting q) p ≡ true) ↔ ((i : ℕ) → i < capacity t → 0 < movedBy k plus (suc i) (changes p) → Fits k (wordAt t i (counterWord k)) (suc i) (waiting q) p)
+unfolding raisedWithin countWithin
+raised-is t q s p k = (there, back)
+  where
+    ps : List Packet
+    ps = waiting q
+
+    up : ℕ → ℕ
+    up i = wordAt t i (counterWord k) + waitingChange k plus (suc i) ps + movedBy k plus (suc i) (changes p)
+
+    down : ℕ → ℕ
+    down i = ceiling + waitingChange k minus (suc i) ps + movedBy k minus (suc i) (changes p)
+
+    test : ℕ → Bool
+    test w = not (isCell (capacity t) w) || leb (up (pred w)) (down (pred w))
+
+    there : everyOf (raisedWords k (changes p)) test ≡ true → (i : ℕ) → i < capacity t → 0 < movedBy k plus (suc i) (changes p) → up i ≤ down i
+    there h i l m =
+        let e : pred (suc i) ≡ i = omega arith in
+        let o : test (suc i) ≡ true = everyOf-at (raisedWords k (changes p)) test (suc i) h (raised-contains k (suc i) (changes p) m) in
+        leb-true (up i) (down i) (rw (place-cell (capacity t) i l, e) at o)
+
+    back : ((i : ℕ) → i < capacity t → 0 < movedBy k plus (suc i) (changes p) → up i ≤ down i) → everyOf (raisedWords k (changes p)) test ≡ true
+    back f = everyOf-all (raisedWords k (changes p)) test (λ w _. ⊎-elim (λ (e : isCell (capacity t) w ≡ true). inside w e) (λ (e : isCell (capacity t) w ≡ false). rw e) (tested (isCell (capacity t) w)))
+      where
+        inside : (w : ℕ) → isCell (capacity t) w ≡ true → test w ≡ true
+        inside w e =
+            let l = cell-place (capacity t) w e in
+            rw e (le-leb (up (pred w)) (down (pred w)) (⊎-elim (λ m. f (pred w) l m) (λ z. omega (arith, within-before t q s k (pred w) l)) (lt-or-ge 0 (movedBy k plus (suc (pred w)) (changes p)))))
+
+-- question 8: the first free end against the free cells
+free-same : (t : List ℕ) (q : Queue) → Sound t q → (r : RowCall) → freeByEnd (kindOf (packetOf t r .kind)) t ≡ askFree t r
+unfolding freeByEnd askFree packetOf kindOf
+free-same t q s (car x) = refl
+free-same t q s (cdr x) = refl
+free-same t q s (cons x y) = ap (λ (b : Bool). ask 8 b ∷ []) (bool-same (not (eqb (firstFree t) 0)) (cellFree t) there back)
+  where
+    there : not (eqb (firstFree t) 0) ≡ true → cellFree t ≡ true
+    there h = ⊎-elim (λ c. c) (λ c. absurd (eqb-false (firstFree t) 0 (not-true (eqb (firstFree t) 0) h) (first-free t q s .1 c))) (tested (cellFree t))
+
+    back : cellFree t ≡ true → not (eqb (firstFree t) 0) ≡ true
+    back c = ⊎-elim (λ e. absurd (not-both c (first-free t q s .0 (eqb-true (firstFree t) 0 e)))) (λ (e : eqb (firstFree t) 0 ≡ false). rw e) (tested (eqb (firstFree t) 0))
+free-same t q s (setLeft x y) = refl
+free-same t q s (setRight x y) = refl
+free-same t q s (up x n) = refl
+free-same t q s (down x n) = refl
+
+-- two lists that agree wherever the questions before them say "yes"
+firstNo-same : (ks ls ms : List Question) → Numbered ks → (AllYes ks → firstNo ls ≡ firstNo ms) → firstNo (ks ++ ls) ≡ firstNo (ks ++ ms)
+firstNo-same ks ls ms n f = go (firstNo ks) refl
+  where
+    go : (m : ℕ) → firstNo ks ≡ m → firstNo (ks ++ ls) ≡ firstNo (ks ++ ms)
+    go zero e = firstNo-none ks ls n e ∙ f (firstNo-all ks n e) ∙ sym (firstNo-none ks ms n e)
+    go (suc m) e = firstNo-append ks ls m e ∙ sym (firstNo-append ks ms m e)
+
+free-numbered : (t : List ℕ) (r : RowCall) → Numbered (askFree t r)
+unfolding askFree
+free-numbered t (car x) = tt
+free-numbered t (cdr x) = tt
+free-numbered t (cons x y) = (omega arith, tt)
+free-numbered t (setLeft x y) = tt
+free-numbered t (setRight x y) = tt
+free-numbered t (up x n) = tt
+free-numbered t (down x n) = tt
+
+module _ (t : List ℕ) (q : Queue) (s : Sound t q) (a : Arrays q) (r : RowCall) (yes : AllYes (earlyRow t r)) where
+  abbrev p : Packet
+  p = packetOf t r
+
+  abbrev before : List Question
+  before = ask 6 (heldEnough t (waiting q) p) ∷ ask 7 (slotEmpty q) ∷ askFree t r
+
+  slot : slotEmpty q ≡ true → q .count < slots
+  unfolding slotEmpty
+  slot h = ltb-true (q .count) slots h
+
+  nine : AllYes before → raisedWithin root t (waiting q) p ≡ heldWithin (written t r) (waiting (appended q p))
+  nine y =
+      let code = raised-is t q s p root in
+      let paper = question9 t q s r yes (held-test t (waiting q) p (y .0)) (y .1 .1) a (slot (y .1 .0)) in
+      bool-same (raisedWithin root t (waiting q) p) (heldWithin (written t r) (waiting (appended q p))) (λ h. paper .1 (code .0 h)) (λ h. code .1 (paper .0 h))
+
+  ten : AllYes before → raisedWithin cell t (waiting q) p ≡ pointersWithin (written t r)
+  ten y =
+      let code = raised-is t q s p cell in
+      let paper = question10 t q s r yes (held-test t (waiting q) p (y .0)) (y .1 .1) in
+      bool-same (raisedWithin cell t (waiting q) p) (pointersWithin (written t r)) (λ h. paper .1 (code .0 h)) (λ h. code .1 (paper .0 h))
+
+  late-same : firstNo (codeLate t q p) ≡ firstNo (lateRow t q r)
+  unfolding codeLate lateRow
+  late-same =
+      ap (λ (f : List Question). firstNo (ask 6 (heldEnough t (waiting q) p) ∷ ask 7 (slotEmpty q) ∷ f ++ (ask 9 (raisedWithin root t (waiting q) p) ∷ ask 10 (raisedWithin cell t (waiting q) p) ∷ []))) (free-same t q s r)
+      ∙ firstNo-same before (ask 9 (raisedWithin root t (waiting q) p) ∷ ask 10 (raisedWithin cell t (waiting q) p) ∷ [])
+      (ask 9 (heldWithin (written t r) (waiting (appended q p))) ∷ ask 10 (pointersWithin (written t r)) ∷ []) (omega arith, (omega arith, free-numbered t r))
+      (λ y. ap₂ (λ (d e : Bool). firstNo (ask 9 d ∷ ask 10 e ∷ [])) (nine y) (ten y))
+
+pub questions-same : (t : List ℕ) (q : Queue) → Sound t q → Arrays q → (r : RowCall) → firstNo (codeQuestions t q r) ≡ firstNo (questions (store t q []) (row r))
+unfolding codeQuestions questions late early
+questions-same t q s a r =
+    firstNo-same (early (store t q []) (row r)) (codeLate t q (packetOf t r)) (lateRow t q r) (early-numbered (store t q []) (row r)) (λ y. late-same t q s a r (y .1))

@@ -1,0 +1,57 @@
+// The store's calls, each with the one promise, for any words, numbers and buffers. The promise is machine's specs/Promise; a row call and a fresh
+// are lent no scratch.
+use calls::FreshReply;
+use calls::RowReply;
+use machine::Queue;
+ghost use mathlib.Core.List.{[]};
+ghost use Rattle.machine.specs.Calls.{fresh, row, car, cdr, cons, setLeft, setRight, up, down, store};
+ghost use Rattle.machine.specs.Answers.{freshReply, rowReply};
+ghost use Rattle.machine.specs.Promise.{Promise};
+
+pub fn fresh(table: &mut [u16], queue: Queue, c: u16) -> FreshReply
+    ensures { λ r. ⌜ Promise (store (now (table .entry)) queue []) (fresh c) (freshReply (r .answer)) (store (now (table .exit)) (r .queue) []) ⌝ }
+{
+    calls::fresh(table, queue, c)
+}
+
+pub fn car(table: &[u16], queue: Queue, x: u16) -> RowReply
+    ensures { λ r. ⌜ Promise (store (now (table .entry)) queue []) (row (car x)) (rowReply (r .answer)) (store (now (table .entry)) (r .queue) []) ⌝ }
+{
+    calls::car(table, queue, x)
+}
+
+pub fn cdr(table: &[u16], queue: Queue, x: u16) -> RowReply
+    ensures { λ r. ⌜ Promise (store (now (table .entry)) queue []) (row (cdr x)) (rowReply (r .answer)) (store (now (table .entry)) (r .queue) []) ⌝ }
+{
+    calls::cdr(table, queue, x)
+}
+
+pub fn cons(table: &mut [u16], queue: Queue, x: u16, y: u16) -> RowReply
+    ensures { λ r. ⌜ Promise (store (now (table .entry)) queue []) (row (cons x y)) (rowReply (r .answer)) (store (now (table .exit)) (r .queue) []) ⌝ }
+{
+    calls::cons(table, queue, x, y)
+}
+
+pub fn set_left(table: &mut [u16], queue: Queue, x: u16, y: u16) -> RowReply
+    ensures { λ r. ⌜ Promise (store (now (table .entry)) queue []) (row (setLeft x y)) (rowReply (r .answer)) (store (now (table .exit)) (r .queue) []) ⌝ }
+{
+    calls::set_left(table, queue, x, y)
+}
+
+pub fn set_right(table: &mut [u16], queue: Queue, x: u16, y: u16) -> RowReply
+    ensures { λ r. ⌜ Promise (store (now (table .entry)) queue []) (row (setRight x y)) (rowReply (r .answer)) (store (now (table .exit)) (r .queue) []) ⌝ }
+{
+    calls::set_right(table, queue, x, y)
+}
+
+pub fn up(table: &[u16], queue: Queue, x: u16, n: u16) -> RowReply
+    ensures { λ r. ⌜ Promise (store (now (table .entry)) queue []) (row (up x n)) (rowReply (r .answer)) (store (now (table .entry)) (r .queue) []) ⌝ }
+{
+    calls::up(table, queue, x, n)
+}
+
+pub fn down(table: &[u16], queue: Queue, x: u16, n: u16) -> RowReply
+    ensures { λ r. ⌜ Promise (store (now (table .entry)) queue []) (row (down x n)) (rowReply (r .answer)) (store (now (table .entry)) (r .queue) []) ⌝ }
+{
+    calls::down(table, queue, x, n)
+}
