@@ -4,3 +4,9 @@ pub mod Fitting
 pub mod Names
 pub mod Pass
 pub mod Swept
+pub mod Threads
+pub mod Pushing
+pub mod Following
+pub mod Marked
+pub mod ShortWay
+pub mod Stepping

@@ -2,13 +2,14 @@
 use mathlib.Core.Path.{_≡_}
 use mathlib.Core.Bool.{Bool, true, cond}
 use mathlib.Core.List.{List}
-use Prim.Native.Nat.{ℕ, suc, _<_}
+use Prim.Native.Nat.{ℕ, suc, _≤_, _<_}
 use lib.ListN.{length}
 use Rattle.machine.specs.declared.Queue.{Queue}
 use Rattle.machine.specs.declared.StepAnswer
 use Rattle.machine.specs.declared.StepAnswer.{StepAnswer}
-use Rattle.machine.specs.Table.{capacity}
-use Rattle.machine.specs.Queue.{Packet, slot, waiting, taken}
+use Rattle.machine.specs.Words.{mostCells}
+use Rattle.machine.specs.Table.{capacity, lastFree, tableLength}
+use Rattle.machine.specs.Queue.{Packet, slots, slot, waiting, taken}
 use Rattle.machine.specs.Packets.{changes}
 use Rattle.machine.specs.Calls.{step, refused, idle, store}
 use Rattle.machine.specs.Step.{unreached, swept, cleared, outcome, stepped}
@@ -19,6 +20,7 @@ use Rattle.machine.specs.Promise.{Untouched}
 use Rattle.collector.specs.declared.Stepped.{Stepped}
 use Rattle.collector.specs.Fitting.{applyFitting, ChangesFit}
 use Rattle.collector.specs.Names.{stayRoots}
+use Rattle.collector.specs.Marking.{Markable}
 
 -- the oldest packet
 abbrev pub oldest : Queue → Packet
@@ -36,7 +38,27 @@ collected t ps p = cond (stayRoots t ps p) t (swept t (unreached t ps))
 unfoldable pub freedNumber : List ℕ → List Packet → Packet → ℕ
 freedNumber t ps p = cond (stayRoots t ps p) 0 (length (unreached t ps))
 
--- past the questions, with a packet waiting: what the code computes on any store
+-- what mark and sweep give on any store past questions 1 and 2
+pub record Collects (t : List ℕ) (ps : List Packet) (s t′ s′ : List ℕ) (n : ℕ) : Type 0 where
+  pub table : t′ ≡ swept t (unreached t ps)
+  pub number : n ≡ length (unreached t ps)
+  pub scratch : s′ ≡ cleared (capacity t) s
+
+pub record Collectable (t : List ℕ) (q : Queue) (s : List ℕ) (c : ℕ) : Type 0 where
+  pub markable : Markable t q s c
+  pub last : lastFree t ≤ capacity t
+
+-- questions 1 and 2 as plain facts, and a packet waits
+pub record Waits (t : List ℕ) (q : Queue) (s : List ℕ) : Type 0 where
+  pub room : tableLength (capacity t) ≤ length t
+  pub most : capacity t ≤ mostCells
+  pub last : lastFree t ≤ capacity t
+  pub place : q .place < slots
+  pub count : q .count ≤ slots
+  pub enough : capacity t ≤ length s
+  pub some : 0 < q .count
+
+-- what the code then computes on any store
 pub record Applies (t : List ℕ) (q : Queue) (s : List ℕ) (r : Stepped) (t′ s′ : List ℕ) : Type 0 where
   pub table : t′ ≡ collected (applyFitting t (changes (oldest q))) (waiting (taken q)) (oldest q)
   pub answer : r .answer ≡ StepAnswer.Applied (oldest q .kind) (freedNumber (applyFitting t (changes (oldest q))) (waiting (taken q)) (oldest q))
