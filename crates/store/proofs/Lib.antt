@@ -1,3 +1,4 @@
 -- From what calls, collector and audit prove to the promise, by soundness.
 pub mod RowTests
 pub mod RowPromise
+pub mod StepPromise

@@ -2,10 +2,11 @@
 // are lent no scratch.
 use calls::FreshReply;
 use calls::RowReply;
+use collector::Stepped;
 use machine::Queue;
 ghost use mathlib.Core.List.{[]};
-ghost use Rattle.machine.specs.Calls.{fresh, row, car, cdr, cons, setLeft, setRight, up, down, store};
-ghost use Rattle.machine.specs.Answers.{freshReply, rowReply};
+ghost use Rattle.machine.specs.Calls.{fresh, row, step, car, cdr, cons, setLeft, setRight, up, down, store};
+ghost use Rattle.machine.specs.Answers.{freshReply, rowReply, stepReply};
 ghost use Rattle.machine.specs.Promise.{Promise};
 
 pub fn fresh(table: &mut [u16], queue: Queue, c: u16) -> FreshReply
@@ -54,4 +55,10 @@ pub fn down(table: &[u16], queue: Queue, x: u16, n: u16) -> RowReply
     ensures { λ r. ⌜ Promise (store (now (table .entry)) queue []) (row (down x n)) (rowReply (r .answer)) (store (now (table .entry)) (r .queue) []) ⌝ }
 {
     calls::down(table, queue, x, n)
+}
+
+pub fn step(table: &mut [u16], queue: Queue, scratch: &mut [u16]) -> Stepped
+    ensures { λ r. ⌜ Promise (store (now (table .entry)) queue (now (scratch .entry))) step (stepReply (r .answer)) (store (now (table .exit)) (r .queue) (now (scratch .exit))) ⌝ }
+{
+    collector::step(table, queue, scratch)
 }

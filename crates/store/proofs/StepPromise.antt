@@ -1,0 +1,100 @@
+-- What `collector` proves of a step is the promise: a sound store meets its premises.
+use mathlib.Core.Path.{_≡_, refl, sym, ap, ap₂, _∙_}
+use mathlib.Core.Logic.{_⊎_, inl, inr, ⊎-elim}
+use mathlib.Core.Bool.{Bool, true}
+use mathlib.Core.List.{List, [], _∷_, _++_, append-nil}
+use Prim.Native.Nat.{ℕ, zero, suc, pred, _+_, _≤_, _<_}
+use native.Mathlib.Omega.{arith}
+use lib.ListN.{length}
+use Rattle.machine.specs.declared.Queue.{Queue}
+use Rattle.machine.specs.Range.{matching}
+use Rattle.machine.specs.Words.{isCell, ceiling}
+use Rattle.machine.specs.Table.{rootCount, cellCount, capacity, tableLength, wordAt}
+use Rattle.machine.specs.Queue.{Packet, slots, slot, packetsFrom, waiting, taken}
+use Rattle.machine.specs.Packets.{Counter, root, cell, Direction, Change, changes, contains}
+use Rattle.machine.specs.Calls.{step, Reply, refused, idle, Store, store}
+use Rattle.machine.specs.Step.{counterWord, shifted, moveCount, Outcome, outcome, stepFrom, stepped}
+use Rattle.machine.specs.Questions.{firstNo, early, late, questions}
+use Rattle.machine.specs.Audit.{Sound}
+use Rattle.machine.specs.Machine.{accepted, machine}
+use Rattle.machine.specs.Answers.{stepReply}
+use Rattle.machine.specs.Promise.{Decided, numbers, Promise}
+use Rattle.machine.proofs.Range.{matching-same, lt-or-ge}
+use Rattle.machine.proofs.Words.{cell-place, cell-number}
+use Rattle.machine.proofs.Moves.{length-move, capacity-move, count-move}
+use Rattle.machine.proofs.Ring.{waiting-taken}
+use Rattle.machine.proofs.Asked.{Shape, shape-is}
+use Rattle.machine.proofs.Kept.{machine-accepted, machine-refused}
+use Rattle.soundness.specs.Untrimmed.{Passes, AllPass, Untrimmed}
+use Rattle.soundness.proofs.Untrimmed.{untrimmed}
+use Rattle.collector.specs.declared.Stepped.{Stepped}
+use Rattle.collector.specs.Fitting.{ChangesFit}
+use Rattle.collector.specs.Steps.{oldest, Premises, Steps}
+
+-- a count at most one past the ceiling fits a word
+count-fits : (p : Packet) (h : Change) (t u : List ℕ) → Passes p h t u → (k : Counter) (i : ℕ) → i < capacity t → wordAt u i (counterWord k) < 65536
+count-fits p h t u a root i l = omega (arith, a .roots i l)
+count-fits p h t u a cell i l = ⊎-elim (λ m. omega arith) (λ e. omega (arith, e .0)) (a .cells i l)
+
+passes-fit : (p : Packet) (t : List ℕ) (hs : List Change) → tableLength (capacity t) ≤ length t → AllPass p t hs → ChangesFit t hs
+passes-fit p t [] f a = tt
+passes-fit p t (h ∷ hs) f a = (here, passes-fit p u hs (rw (capacity-move t (h .counter) (h .word) (h .direction) (h .amount), length-move t (h .counter) (h .word) (h .direction) (h .amount)) f) (a .1))
+  where
+    u : List ℕ
+    u = moveCount t (h .counter) (h .word) (h .direction) (h .amount)
+
+    here : isCell (capacity t) (h .word) ≡ true → shifted (h .direction) (wordAt t (pred (h .word)) (counterWord (h .counter))) (h .amount) < 65536
+    here c =
+        let l = cell-place (capacity t) (h .word) c in
+        let e = count-move t (h .counter) (h .word) (h .direction) (h .amount) f (pred (h .word)) l in
+        let m = matching-same (h .word) (suc (pred (h .word))) (h .amount) (cell-number (capacity t) (h .word) c) in
+        rw (e ∙ ap (shifted (h .direction) (wordAt t (pred (h .word)) (counterWord (h .counter)))) m) at (count-fits p h t u (a .0) (h .counter) (pred (h .word)) l)
+
+-- a sound store with a packet waiting meets the step's premises
+premises : (t : List ℕ) (q : Queue) → Sound t q → 0 < q .count → Premises t q
+premises t q s l =
+    let shape = shape-is t q (s .shape) in
+    let first = waiting-taken q (pred (q .count)) (shape .place) (shape .count) (omega arith) in
+    record { fit = passes-fit (oldest q) t (changes (oldest q)) (shape .room) (untrimmed t q (oldest q) (waiting (taken q)) s first .passing); live = s .live }
+
+idle-is : (t : List ℕ) (q : Queue) (s : List ℕ) → q .count ≡ 0 → stepped (store t q s) ≡ outcome idle (store t q s)
+unfolding stepped stepFrom waiting packetsFrom
+idle-is t q s z = rw z
+
+module _ (t : List ℕ) (q : Queue) (s : List ℕ) (r : Stepped) (t′ s′ : List ℕ) (h : Steps t q s r t′ s′) where
+  abbrev before : Store
+  before = store t q s
+
+  abbrev after : Store
+  after = store t′ (r .queue) s′
+
+  all-early : firstNo (questions before step) ≡ firstNo (early before step)
+  unfolding questions late
+  all-early = ap firstNo (append-nil (early before step))
+
+  step-exact : Decided before step → (stepReply (r .answer) ≡ machine before step .reply) × (after ≡ machine before step .after)
+  unfolding accepted
+  step-exact d = go (firstNo (early before step)) refl
+    where
+      Same : Type 0
+      Same = (stepReply (r .answer) ≡ stepped before .reply) × (after ≡ stepped before .after)
+
+      idles : firstNo (early before step) ≡ 0 → q .count ≡ 0 → Same
+      idles e z = rw (idle-is t q s z) (h .idles e z)
+
+      applies : firstNo (early before step) ≡ 0 → Sound t q → Same
+      applies e k =
+          ⊎-elim (λ l. let o = h .exact e (premises t q k l) in (ap (λ (x : Outcome). x .reply) o, ap (λ (x : Outcome). x .after) o))
+          (λ z. idles e (omega arith)) (lt-or-ge 0 (q .count))
+
+      go : (n : ℕ) → firstNo (early before step) ≡ n → (stepReply (r .answer) ≡ machine before step .reply) × (after ≡ machine before step .after)
+      go zero e = rw (machine-accepted before step (all-early ∙ e)) (⊎-elim (applies e) (idles e) d)
+      go (suc n) e = rw (machine-refused before step n (all-early ∙ e)) (h .asked n e)
+
+  pub step-promise : Promise before step (stepReply (r .answer)) after
+  step-promise = record {
+    asked = h .asked;
+    refusal = λ n e k. absurd (h .answered n e k);
+    exact = step-exact;
+    bounded = h .bounded;
+  }
