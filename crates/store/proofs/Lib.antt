@@ -2,3 +2,4 @@
 pub mod RowTests
 pub mod RowPromise
 pub mod StepPromise
+pub mod ShutOut
