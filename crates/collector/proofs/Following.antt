@@ -3,10 +3,10 @@ use mathlib.Core.Path.{_≡_, refl, sym, ap, _∙_}
 use mathlib.Core.Logic.{⊎-elim, _≢_}
 use mathlib.Core.Bool.{Bool, true, false, _||_}
 use mathlib.Core.List.{List}
-use Prim.Native.Nat.{ℕ, zero, suc, pred, _+_, _-_, _≤_, _<_}
+use Prim.Native.Nat.{ℕ, zero, suc, pred, _≤_, _<_}
 use native.Mathlib.Omega.{arith}
 use lib.Dec.{ltb, eqb}
-use lib.ListN.{length, getD, set, drop}
+use lib.ListN.{length, getD, drop}
 use lib.Seq.{getD-set-same, getD-set-other, drop-set-lt}
 use borrow.Author.Tests.{eqb-true, eqb-false, eq-eqb, lt-ltb, ltb-true}
 use Rattle.machine.specs.Range.{tabulate}
@@ -19,7 +19,7 @@ use Rattle.machine.proofs.Range.{tested, not-both, or-true, or-left, or-right}
 use Rattle.machine.proofs.Words.{cell-place, cell-number, place-cell}
 use Rattle.machine.proofs.Reached.{computed, computes}
 use Rattle.collector.specs.Marking.{Stack, stack, pushed, pushedRooted, pushedNamed, visited, Threaded, Followable, Follows, Marks}
-use Rattle.collector.proofs.Threads.{threaded-pushed, done-before, popped, First, first, none-pending, work, work-pushed, work-popped, past-pushed}
+use Rattle.collector.proofs.Threads.{threaded-pushed, done-before, popped, First, none-pending, work, work-pushed, work-popped, past-pushed}
 use Rattle.collector.proofs.Pushing.{met, met-pushed, roots-pushed, cleared-zero, past-cleared}
 
 -- Halfway: what is marked is earned, what is followed leads to marked cells only (the place `but` excepted), and what was marked first still is.

@@ -10,3 +10,4 @@ pub mod Following
 pub mod Marked
 pub mod ShortWay
 pub mod Stepping
+pub mod Promised

@@ -1,17 +1,16 @@
 -- What the functions of the marking do, and the steps of their loops.
 use mathlib.Core.Path.{_≡_, refl, sym, ap, _∙_}
-use mathlib.Core.Bool.{Bool, true, false, _&&_}
+use mathlib.Core.Bool.{Bool, true, false}
 use mathlib.Core.List.{List, [], _∷_, _++_}
 use Prim.Native.Nat.{ℕ, zero, suc, pred, _+_, _-_, _%_, _≤_, _<_}
-use native.Mathlib.Omega.{arith}
 use native.Mathlib.Numerals.{add-one, sub-one}
-use lib.Dec.{ltb, eqb}
+use lib.Dec.{ltb}
 use lib.ListN.{length, getD, set, drop, replicate, length-replicate}
 use lib.Seq.{drop-cons, set-at}
 use borrow.Author.Tests.{eq-eqb, ne-eqb}
 use Rattle.machine.specs.declared.Queue.{Queue}
 use Rattle.machine.specs.Words.{isCell, mostCells}
-use Rattle.machine.specs.Table.{left, right, rootCount, capacity, tableLength, wordAt}
+use Rattle.machine.specs.Table.{left, right, rootCount, tableLength, wordAt}
 use Rattle.machine.specs.Queue.{Packet, slots, slot, packetsFrom, waiting}
 use Rattle.machine.specs.Step.{cleared}
 use Rattle.machine.proofs.Ring.{packets-snoc}

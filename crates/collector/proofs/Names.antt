@@ -1,8 +1,8 @@
 -- Laws of the words that packets name, and of roots.
 use mathlib.Core.Path.{_≡_, refl, sym, ap, _∙_}
-use mathlib.Core.Bool.{Bool, true, false, not, _&&_, _||_}
+use mathlib.Core.Bool.{Bool, true, false, _||_, and-true, or-false}
 use mathlib.Core.List.{List, [], _∷_, _++_}
-use Prim.Native.Nat.{ℕ, zero, suc, pred, _+_, _-_, _%_, _≤_, _<_}
+use Prim.Native.Nat.{ℕ, zero, suc, _+_, _-_, _%_, _≤_}
 use native.Mathlib.Omega.{arith}
 use native.Mathlib.Numerals.{add-one, sub-one}
 use lib.Dec.{ltb, eqb}
@@ -10,14 +10,14 @@ use borrow.Author.Tests.{eq-eqb, ne-eqb}
 use Rattle.machine.specs.declared.Queue.{Queue}
 use Rattle.machine.specs.Range.{everyOf}
 use Rattle.machine.specs.Words.{isCell}
-use Rattle.machine.specs.Table.{left, right, rootCount, capacity, wordAt}
-use Rattle.machine.specs.Queue.{Packet, packet, slots, slot, packetsFrom}
+use Rattle.machine.specs.Table.{rootCount, capacity, wordAt}
+use Rattle.machine.specs.Queue.{Packet, slots, slot, packetsFrom}
 use Rattle.machine.specs.Packets.{Kind, reads, makes, replaces, raises, lowers, unknown, kindOf, namesOf, names, contains, isNamed}
 use Rattle.machine.specs.Reached.{isRoot}
 use Rattle.machine.proofs.Words.{cell-number}
 use Rattle.machine.proofs.Ring.{packets-snoc}
 use Rattle.queue.proofs.Totals.{kind-unknown}
-use Rattle.collector.specs.Names.{threeOf, threeNames, staysRoot, stayRoots}
+use Rattle.collector.specs.Names.{threeOf, threeNames, staysRoot}
 
 -- the three words by the kind's number
 pub three-all : (k a b c : ℕ) → 1 ≤ k → k ≤ 3 → a ∷ b ∷ c ∷ [] ≡ threeOf (kindOf k) a b c
@@ -76,19 +76,11 @@ module _ (x y z w : ℕ) (ws : List ℕ) (e : x ∷ y ∷ z ∷ [] ≡ ws) (foun
 
   pub or-third : (x ≡ w → ⊥) → (y ≡ w → ⊥) → eqb z w ≡ found || contains ws w
   unfolding contains
-  or-third d g = rw (f, ← e, ne-eqb x w d, ne-eqb y w g) (last (eqb z w))
-    where
-      last : (b : Bool) → b ≡ b || false
-      last true = refl
-      last false = refl
+  or-third d g = rw (f, ← e, ne-eqb x w d, ne-eqb y w g) (sym (or-false (eqb z w)))
 
 isNamed-snoc : (ps : List Packet) (p : Packet) (w : ℕ) → isNamed (ps ++ (p ∷ [])) w ≡ isNamed ps w || contains (names p) w
 unfolding isNamed
-isNamed-snoc [] p w = last (contains (names p) w)
-  where
-    last : (b : Bool) → b || false ≡ b
-    last true = refl
-    last false = refl
+isNamed-snoc [] p w = or-false (contains (names p) w)
 isNamed-snoc (r ∷ ps) p w = go (contains (names r) w) (isNamed-snoc ps p w)
   where
     go : (b : Bool) → isNamed (ps ++ (p ∷ [])) w ≡ isNamed ps w || contains (names p) w → b || isNamed (ps ++ (p ∷ [])) w ≡ b || isNamed ps w || contains (names p) w
@@ -131,8 +123,4 @@ module _ (p : ℕ → Bool) (x y z : ℕ) (ws : List ℕ) (e : x ∷ y ∷ z ∷
 
   pub every-third : p x ≡ true → p y ≡ true → p z ≡ everyOf ws p
   unfolding everyOf
-  every-third h k = rw (← e, h, k) (last (p z))
-    where
-      last : (b : Bool) → b ≡ b && true
-      last true = refl
-      last false = refl
+  every-third h k = rw (← e, h, k) (sym (and-true (p z)))

@@ -12,7 +12,7 @@ use Rattle.machine.specs.Range.{select}
 use Rattle.machine.specs.Table.{stride, left, right, state, capacity, lastFree, tableLength, wordAt, inUse}
 use Rattle.machine.specs.Packets.{cell, minus}
 use Rattle.machine.specs.Step.{moveCount, lowerPointers, join, joinAll, swept}
-use Rattle.machine.proofs.Range.{tested, below-suc}
+use Rattle.machine.proofs.Range.{tested}
 use Rattle.machine.proofs.Chain.{Places}
 use Rattle.machine.proofs.Moves.{length-move, capacity-move, lastFree-move, word-move}
 use Rattle.machine.proofs.Sweep.{joins}

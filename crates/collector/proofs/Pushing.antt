@@ -1,7 +1,7 @@
 -- What the pushes mark: just the roots.
 use mathlib.Core.Path.{_≡_, refl, sym, ap, _∙_}
 use mathlib.Core.Logic.{⊎-elim, _≢_}
-use mathlib.Core.Bool.{Bool, true, false, cond, _&&_, _||_}
+use mathlib.Core.Bool.{Bool, true, false, cond, _&&_, _||_, and-true, and-false, or-false, or-assoc}
 use mathlib.Core.List.{List, [], _∷_}
 use Prim.Native.Nat.{ℕ, zero, suc, pred, _+_, _≤_, _<_}
 use native.Mathlib.Omega.{arith}
@@ -69,15 +69,6 @@ fresh-pushed c w st h = record {
   none = λ i l e. h .none i l (done-before c w st (h .threaded) i l e);
 }
 
--- a list of words pushed
-or-assoc : (a b d : Bool) → a || b || d ≡ a || (b || d)
-or-assoc true b d = refl
-or-assoc false b d = refl
-
-or-none : (b : Bool) → b ≡ b || false
-or-none true = refl
-or-none false = refl
-
 -- what pushes leave: a fresh stack, with the words past the first c as they were, and these marks more
 pub record Pushed (c : ℕ) (more : ℕ → Bool) (st st′ : Stack) : Type 0 where
   pub fresh : Fresh c st′
@@ -85,7 +76,7 @@ pub record Pushed (c : ℕ) (more : ℕ → Bool) (st st′ : Stack) : Type 0 wh
   pub marks : (i : ℕ) → i < c → met st′ i ≡ met st i || more i
 
 pushed-nothing : (c : ℕ) (st : Stack) → Fresh c st → Pushed c (λ _. false) st st
-pushed-nothing c st h = record { fresh = h; past = refl; marks = λ i l. or-none (met st i) }
+pushed-nothing c st h = record { fresh = h; past = refl; marks = λ i l. sym (or-false (met st i)) }
 
 pushed-one : (c w : ℕ) (st : Stack) → Fresh c st → Pushed c (λ i. eqb w (suc i)) st (pushed c w st)
 pushed-one c w st h = record { fresh = fresh-pushed c w st h; past = past-pushed c w st; marks = λ i l. met-pushed c w st (h .threaded .enough) i l }
@@ -138,25 +129,17 @@ module _ (t : List ℕ) (c : ℕ) where
       pushed-as c (λ i. ltb i n && above i || (above n && eqb (suc n) (suc i))) (λ i. ltb i (suc n) && above i) st (pushedIfRooted t c n u) (λ i l. one i)
       (pushed-then c (λ i. ltb i n && above i) (λ i. above n && eqb (suc n) (suc i)) st u (pushedIfRooted t c n u) p (if-pushed n u (p .fresh)))
     where
-      last : (b : Bool) → b ≡ b && true
-      last true = refl
-      last false = refl
-
-      none : (b : Bool) → b && false ≡ false
-      none true = refl
-      none false = refl
-
       one : (i : ℕ) → ltb i n && above i || (above n && eqb (suc n) (suc i)) ≡ ltb i (suc n) && above i
       one i = ⊎-elim below (λ m. ⊎-elim (λ e. here (eqb-true i n e)) (λ e. past m (eqb-false i n e)) (tested (eqb i n))) (lt-or-ge i n)
         where
           below : i < n → ltb i n && above i || (above n && eqb (suc n) (suc i)) ≡ ltb i (suc n) && above i
-          below m = rw (lt-ltb i n m, lt-ltb i (suc n) (omega arith), ne-eqb (suc n) (suc i) (omega arith), none (above n)) (sym (or-none (above i)))
+          below m = rw (lt-ltb i n m, lt-ltb i (suc n) (omega arith), ne-eqb (suc n) (suc i) (omega arith), and-false (above n)) (or-false (above i))
 
           here : i ≡ n → ltb i n && above i || (above n && eqb (suc n) (suc i)) ≡ ltb i (suc n) && above i
-          here e = rw (e, le-ltb n n (omega arith), lt-ltb n (suc n) (omega arith), eq-eqb (suc n) (suc n) refl) (sym (last (above n)))
+          here e = rw (e, le-ltb n n (omega arith), lt-ltb n (suc n) (omega arith), eq-eqb (suc n) (suc n) refl) (and-true (above n))
 
           past : n ≤ i → (i ≡ n → ⊥) → ltb i n && above i || (above n && eqb (suc n) (suc i)) ≡ ltb i (suc n) && above i
-          past m d = rw (le-ltb i n m, le-ltb i (suc n) (omega arith), ne-eqb (suc n) (suc i) (omega arith)) (none (above n))
+          past m d = rw (le-ltb i n m, le-ltb i (suc n) (omega arith), ne-eqb (suc n) (suc i) (omega arith)) (and-false (above n))
 
 -- the cleared scratch
 pub cleared-zero : (c : ℕ) (s : List ℕ) (i : ℕ) → i < c → getD (cleared c s) i 0 ≡ 0

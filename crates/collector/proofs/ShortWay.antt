@@ -1,7 +1,7 @@
 -- The short way: where each cell that the taken packet names is still a root and every cell in use was reached before, nothing is to be freed.
 use mathlib.Core.Path.{_≡_, refl, _∙_}
 use mathlib.Core.Logic.{⊎-elim, _≢_}
-use mathlib.Core.Bool.{Bool, true, false, not, _&&_, _||_, false≢true}
+use mathlib.Core.Bool.{Bool, true, false, not, _&&_, _||_, false≢true, and-false}
 use mathlib.Core.List.{List, [], _∷_}
 use Prim.Native.Nat.{ℕ, zero, suc, _≤_, _<_}
 use native.Mathlib.Omega.{arith}
@@ -141,8 +141,4 @@ module _ (t : List ℕ) (p : Packet) (ps : List Packet) (f : tableLength (capaci
             free e = rw (used i, free-not-in-use t i e)
 
             busy : reached t (p ∷ ps) i ≡ true → inUse t′ i && not (reached t′ ps i) ≡ false
-            busy e = rw (reached-is t′ ps i .1 (reached-kept (reached-is t (p ∷ ps) i .0 e))) (last (inUse t′ i))
-              where
-                last : (b : Bool) → b && false ≡ false
-                last true = refl
-                last false = refl
+            busy e = rw (reached-is t′ ps i .1 (reached-kept (reached-is t (p ∷ ps) i .0 e))) (and-false (inUse t′ i))

@@ -1,25 +1,23 @@
 -- The step's contract, from what its parts do.
 use mathlib.Core.Path.{_≡_, refl, sym, ap, _∙_}
 use mathlib.Core.Logic.{⊎-elim}
-use mathlib.Core.Bool.{Bool, true, false, cond, not, _&&_}
-use mathlib.Core.List.{List, [], _∷_, _++_}
-use Prim.Native.Nat.{ℕ, zero, suc, pred, _≤_, _<_}
+use mathlib.Core.Bool.{Bool, true, false, cond, not, _&&_, and-comm}
+use mathlib.Core.List.{List, [], _∷_}
+use Prim.Native.Nat.{ℕ, suc, pred}
 use native.Mathlib.Omega.{arith}
-use lib.Dec.{ltb}
-use lib.ListN.{length, getD, drop, replicate}
+use lib.ListN.{length}
 use borrow.Author.Tests.{leb-true}
 use Rattle.machine.specs.declared.Queue.{Queue}
 use Rattle.machine.specs.declared.StepAnswer
 use Rattle.machine.specs.declared.StepAnswer.{StepAnswer}
 use Rattle.machine.specs.Range.{select}
-use Rattle.machine.specs.Table.{capacity, lastFree, tableLength, inUse}
-use Rattle.machine.specs.Queue.{Packet, packet, slots, slot, putSlot, packetsFrom, waiting, taken}
+use Rattle.machine.specs.Table.{capacity, lastFree, inUse}
+use Rattle.machine.specs.Queue.{Packet, packet, putSlot, packetsFrom, waiting, taken}
 use Rattle.machine.specs.Packets.{Change, kindOf, changesOf, changes}
 use Rattle.machine.specs.Reached.{reached}
-use Rattle.machine.specs.Calls.{Reply, step, refused, idle, applied, Store, store}
-use Rattle.machine.specs.Step.{moveCount, applyChanges, unreached, joinAll, lowerPointers, swept, cleared, Outcome, outcome, stepWith, stepFrom, stepped}
+use Rattle.machine.specs.Calls.{step, refused, idle, applied, store}
+use Rattle.machine.specs.Step.{moveCount, applyChanges, unreached, joinAll, lowerPointers, swept, cleared, outcome, stepWith, stepFrom, stepped}
 use Rattle.machine.specs.Questions.{firstNo, early, inRange, scratchEnough}
-use Rattle.machine.specs.Audit.{allReached}
 use Rattle.machine.specs.Answers.{stepReply}
 use Rattle.machine.specs.Promise.{Untouched}
 use Rattle.machine.proofs.Range.{tested}
@@ -32,7 +30,7 @@ use Rattle.collector.specs.declared.Stepped.{Stepped}
 use Rattle.collector.specs.Fitting.{tooLarge, moveFitting, applyFitting}
 use Rattle.collector.specs.Names.{stayRoots}
 use Rattle.collector.specs.Marking.{Marks}
-use Rattle.collector.specs.Sweeping.{isDead, Sweepable, Sweeps}
+use Rattle.collector.specs.Sweeping.{isDead, Sweeps}
 use Rattle.collector.specs.Steps.{oldest, Premises, collected, freedNumber, Collects, Collectable, Waits, Applies, Steps}
 use Rattle.collector.proofs.Fitting.{apply-fits}
 use Rattle.collector.proofs.Pass.{select-same}
@@ -40,12 +38,6 @@ use Rattle.collector.proofs.Pushing.{length-cleared, past-cleared}
 use Rattle.collector.proofs.ShortWay.{nothing-freed}
 
 -- mark and sweep
-and-swap : (a b : Bool) → a && b ≡ b && a
-and-swap true true = refl
-and-swap true false = refl
-and-swap false true = refl
-and-swap false false = refl
-
 pub collects : (t : List ℕ) (ps : List Packet) (s s₁ t′ s′ : List ℕ) (c n : ℕ) → c ≡ capacity t → Marks t ps s s₁ → Sweeps t s₁ t′ n → s′ ≡ cleared c s₁ → Collects t ps s t′ s′ n
 collects t ps s s₁ t′ s′ c n e m w f = record {
   table = w .table ∙ ap (swept t) dead;
@@ -54,7 +46,7 @@ collects t ps s s₁ t′ s′ c n e m w f = record {
 }
   where
     dead : select (capacity t) (isDead t s₁) ≡ unreached t ps
-    dead = unfold unreached in select-same (capacity t) (isDead t s₁) (λ i. inUse t i && not (reached t ps i)) (λ i l. unfold isDead in (ap (λ (b : Bool). not b && inUse t i) (m .marks i l) ∙ and-swap (not (reached t ps i)) (inUse t i)))
+    dead = unfold unreached in select-same (capacity t) (isDead t s₁) (λ i. inUse t i && not (reached t ps i)) (λ i l. unfold isDead in (ap (λ (b : Bool). not b && inUse t i) (m .marks i l) ∙ and-comm (not (reached t ps i)) (inUse t i)))
 
 -- changes that fit are some of the changes, so what stands under changes stands
 fitting-some : (t : List ℕ) (hs : List Change) → (gs : List Change) × (applyFitting t hs ≡ applyChanges t gs)
@@ -160,7 +152,7 @@ module _ (t : List ℕ) (q : Queue) (s : List ℕ) where
   pub refuses-2 : inRange t q ≡ true → scratchEnough t s ≡ false → (r : Stepped) → stepReply (r .answer) ≡ refused 2 → r .queue ≡ q → Steps t q s r t s
   refuses-2 h k = refuses 1 (no-2 h k)
 
-  none-waiting : q .count ≡ 0 → stepped (store t q s) ≡ outcome idle (store t q s)
+  pub none-waiting : q .count ≡ 0 → stepped (store t q s) ≡ outcome idle (store t q s)
   unfolding stepped waiting packetsFrom stepFrom
   none-waiting e = rw e
 

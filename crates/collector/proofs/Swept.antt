@@ -1,28 +1,34 @@
 -- What the functions of the sweep do at one place, and the step of its loop.
 use mathlib.Core.Path.{_≡_, refl, sym, ap, _∙_}
-use mathlib.Core.Bool.{Bool, true, false, cond, not, _&&_}
+use mathlib.Core.Bool.{Bool, true, false, cond}
 use mathlib.Core.List.{List}
-use Prim.Native.Nat.{ℕ, zero, suc, pred, _+_, _-_, _≤_, _<_}
+use Prim.Native.Nat.{ℕ, suc, _+_, _-_, _≤_, _<_}
 use native.Mathlib.Omega.{arith}
 use native.Mathlib.Numerals.{add-one, sub-one}
-use lib.Dec.{ltb, eqb}
 use lib.ListN.{length, getD}
 use borrow.Author.Tests.{eq-eqb, ne-eqb, lt-ltb, le-ltb}
 use Rattle.machine.specs.Range.{select}
 use Rattle.machine.specs.Words.{mostCells}
-use Rattle.machine.specs.Table.{left, capacity, firstFree, lastFree, tableLength, wordAt, putWord, putEnds, putCell, inUse}
+use Rattle.machine.specs.Table.{left, right, capacity, firstFree, lastFree, wordAt, putWord, putEnds, putCell, inUse}
+use Rattle.machine.specs.Packets.{cell, minus}
 use Rattle.machine.specs.Step.{join}
+use Rattle.collector.specs.Fitting.{moveFitting, Moves}
 use Rattle.collector.specs.Sweeping.{isDead, freed, endLeft, leftBefore, passed, Placed, Passes, Sweepable, Sweeps}
 use Rattle.collector.proofs.Pass.{Good, passedTo, still-dead, passed-more, passed-good, passed-all, length-select}
 
-pub append-none : (t : List ℕ) (i : ℕ) → lastFree t ≡ 0 → putEnds (putCell t i 0 0 0 0 0) (i + 1) (i + 1) ≡ join t i
-unfolding join
-append-none t i e = rw (eq-eqb (lastFree t) 0 e, add-one i)
+-- a cell wiped and joined to the chain, which is empty or ends at a cell
+module _ (t : List ℕ) (i last : ℕ) (h : last ≡ lastFree t) (u : List ℕ) (wiped : u ≡ putCell t i 0 0 0 0 0) where
+  pub append-none : last ≡ 0 → (v : List ℕ) → v ≡ putEnds u (i + 1) (i + 1) → v ≡ join t i
+  unfolding join
+  append-none z v e = e ∙ rw (wiped, eq-eqb (lastFree t) 0 (sym h ∙ z), add-one i)
 
-pub append-some : (t : List ℕ) (i : ℕ) → (lastFree t ≡ 0 → ⊥)
-    → putEnds (putWord (putCell t i 0 0 0 0 0) (lastFree t - 1) left (i + 1)) (firstFree t) (i + 1) ≡ join t i
-unfolding join
-append-some t i d = rw (ne-eqb (lastFree t) 0 d, add-one i, sub-one (lastFree t))
+  pub append-some : (last ≡ 0 → ⊥) → (first : ℕ) → first ≡ firstFree t → (v w : List ℕ) → v ≡ putWord u (last - 1) left (i + 1) → w ≡ putEnds v first (i + 1) → w ≡ join t i
+  unfolding join
+  append-some d first g v w e f = f ∙ rw (e, g, wiped, h, ne-eqb (lastFree t) 0 (λ z. d (h ∙ z)), add-one i, sub-one (lastFree t))
+
+-- a cell freed
+pub free-is : (t : List ℕ) (i l r : ℕ) → r ≡ wordAt t i right → (u v w : List ℕ) → Moves t cell l minus 1 u → Moves u cell r minus 1 v → w ≡ join v i → w ≡ freed t i l
+free-is t i l r e u v w f g h = h ∙ rw (g .moved, f .moved, e) (unfold freed moveFitting in refl)
 
 pub end-none : (t : List ℕ) (end : ℕ) → end ≡ 0 → 0 ≡ endLeft t end
 unfolding endLeft

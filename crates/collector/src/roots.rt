@@ -10,7 +10,7 @@ ghost use lib.ListN.{length};
 ghost use Rattle.machine.specs.Table.{rootCount, capacity, tableLength, wordAt};
 ghost use Rattle.machine.specs.Queue.{slots, packet, waiting};
 ghost use Rattle.machine.specs.Packets.{kindOf, contains, isNamed};
-ghost use Rattle.collector.specs.Names.{threeOf, threeNames, staysRoot, stayRoots};
+ghost use Rattle.collector.specs.Names.{threeOf, staysRoot, stayRoots};
 
 // The words that a packet names, nil in the place of those that it does not.
 pub(crate) struct Names {

@@ -21,8 +21,12 @@ apply-requires c κs = search needs
 
 stay-roots-requires : tie.Need-stay-roots-requires
 stay-roots-requires c κs =
-    let s = c .before .before .before .before .before .before .before .before .before .before .before in
-    let m = rest-collectable (s .args .table .now) (s .args .queue) (s .args .scratch .now) (s .pre) _ _ _ _ (c .before .before .before .before .before .before .packet-at .ensures) _ (c .before .before .before .apply .ensures) _ (c .before .before .before .before .before .take .ensures) _ (c .before .before .before .before .before .before .before .capacity-of .ensures) .markable in
+    let at-apply = c .before .before .before in
+    let at-take = at-apply .before .before in
+    let at-packet-at = at-take .before in
+    let at-capacity-of = at-packet-at .before in
+    let s = at-capacity-of .before .before .before .before in
+    let m = rest-collectable (s .args .table .now) (s .args .queue) (s .args .scratch .now) (s .pre) _ _ _ _ (at-packet-at .packet-at .ensures) _ (at-apply .apply .ensures) _ (at-take .take .ensures) _ (at-capacity-of .capacity-of .ensures) .markable in
     (rw (m .cells) at (m .room), m .place, m .count)
 
 clear-requires : tie.Need-clear-requires
@@ -30,8 +34,13 @@ clear-requires c κs = search needs
 
 collect-requires : tie.Need-collect-requires
 collect-requires c κs =
-    let s = c .before .before .before .before .before .before .before .before .before .before .before .before .before .before .before in
-    rest-collectable (s .args .table .now) (s .args .queue) (s .args .scratch .now) (s .pre) _ _ _ _ (c .before .before .before .before .before .before .before .before .before .before .packet-at .ensures) _ (c .before .before .before .before .before .before .before .apply .ensures) _ (c .before .before .before .before .before .before .before .before .before .take .ensures) _ (c .before .before .before .before .before .before .before .before .before .before .before .capacity-of .ensures)
+    let at-apply = c .before .before .before .before .before .before .before in
+    let at-take = at-apply .before .before in
+    let at-packet-at = at-take .before in
+    let at-capacity-of = at-packet-at .before in
+    let s = at-capacity-of .before .before .before .before in
+    rest-collectable (s .args .table .now) (s .args .queue) (s .args .scratch .now) (s .pre) _ _ _ _ (at-packet-at .packet-at .ensures) _
+    (at-apply .apply .ensures) _ (at-take .take .ensures) _ (at-capacity-of .capacity-of .ensures)
 
 same-length : tie.Need-same-length
 same-length c = search needs
@@ -41,8 +50,16 @@ same-length-2 c = search needs
 
 returns : tie.Need-returns
 returns c =
-    let s = c .before .before .before .before .before .before .before .before .before .before .before .before .before .before .before .before .before in
-    short (s .args .table .now) (s .args .queue) (s .args .scratch .now) (s .pre) _ _ _ _ (c .before .before .before .before .before .before .before .before .before .before .before .before .packet-at .ensures) _ (c .before .before .before .before .before .before .before .before .before .apply .ensures) _ (c .before .before .before .before .before .before .before .before .before .before .before .take .ensures) _ (c .before .before .before .before .before .before .before .before .before .before .before .before .before .capacity-of .ensures) (sym (c .before .before .before .before .before .stay-roots .ensures) ∙ c .before .before .before .before .if1 .taken) _ (c .before .before .clear .ensures) _ refl refl
+    let at-if1 = c .before .before .before .before in
+    let at-stay-roots = at-if1 .before in
+    let at-apply = at-stay-roots .before .before .before .before in
+    let at-take = at-apply .before .before in
+    let at-packet-at = at-take .before in
+    let at-capacity-of = at-packet-at .before in
+    let s = at-capacity-of .before .before .before .before in
+    short (s .args .table .now) (s .args .queue) (s .args .scratch .now) (s .pre) _ _ _ _ (at-packet-at .packet-at .ensures) _
+    (at-apply .apply .ensures) _ (at-take .take .ensures) _ (at-capacity-of .capacity-of .ensures)
+    (sym (at-stay-roots .stay-roots .ensures) ∙ at-if1 .if1 .taken) _ (c .before .before .clear .ensures) _ refl refl
 
 same-length-3 : tie.Need-same-length-3
 same-length-3 c = search needs
@@ -52,8 +69,17 @@ same-length-4 c = search needs
 
 returns-2 : tie.Need-returns-2
 returns-2 c =
-    let s = c .before .before .before .before .before .before .before .before .before .before .before .before .before .before .before .before .before .before .before .before in
-    long (s .args .table .now) (s .args .queue) (s .args .scratch .now) (s .pre) _ _ _ _ (c .before .before .before .before .before .before .before .before .before .before .before .before .before .before .before .packet-at .ensures) _ (c .before .before .before .before .before .before .before .before .before .before .before .before .apply .ensures) _ (c .before .before .before .before .before .before .before .before .before .before .before .before .before .before .take .ensures) _ (c .before .before .before .before .before .before .before .before .before .before .before .before .before .before .before .before .capacity-of .ensures) (sym (c .before .before .before .before .before .before .before .before .stay-roots .ensures) ∙ c .before .before .before .before .before .before .before .if1 .left) _ _ _ (c .before .before .before .before .collect .ensures) _ refl refl
+    let at-collect = c .before .before .before .before in
+    let at-if1 = at-collect .before .before .before in
+    let at-stay-roots = at-if1 .before in
+    let at-apply = at-stay-roots .before .before .before .before in
+    let at-take = at-apply .before .before in
+    let at-packet-at = at-take .before in
+    let at-capacity-of = at-packet-at .before in
+    let s = at-capacity-of .before .before .before .before in
+    long (s .args .table .now) (s .args .queue) (s .args .scratch .now) (s .pre) _ _ _ _ (at-packet-at .packet-at .ensures) _
+    (at-apply .apply .ensures) _ (at-take .take .ensures) _ (at-capacity-of .capacity-of .ensures)
+    (sym (at-stay-roots .stay-roots .ensures) ∙ at-if1 .if1 .left) _ _ _ (at-collect .collect .ensures) _ refl refl
 
 pub apply-oldest-spec : {M : Type 1} → statement M
 apply-oldest-spec =

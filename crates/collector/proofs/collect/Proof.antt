@@ -20,8 +20,11 @@ same-length-2 c = search needs
 
 returns : tie.Need-returns
 returns c =
-    let s = c .before .before .before .before .before .before .before .before .before .before .before .before .before .before .before .before in
-    collects (s .args .table .now) _ (s .args .scratch .now) _ _ _ _ _ (s .pre .markable .cells) (c .before .before .before .before .before .before .before .before .before .before .before .mark .ensures) (c .before .before .before .before .before .before .sweep .ensures) (c .before .before .clear .ensures)
+    let at-sweep = c .before .before .before .before .before .before in
+    let at-mark = at-sweep .before .before .before .before .before in
+    let s = at-mark .before .before .before .before .before in
+    collects (s .args .table .now) _ (s .args .scratch .now) _ _ _ _ _ (s .pre .markable .cells) (at-mark .mark .ensures) (at-sweep .sweep .ensures)
+    (c .before .before .clear .ensures)
 
 pub collect-spec : {M : Type 1} → statement M
 collect-spec =

@@ -10,7 +10,9 @@ in-range-requires : tie.Need-in-range-requires
 in-range-requires c κs = search needs
 
 scratch-enough-requires : tie.Need-scratch-enough-requires
-scratch-enough-requires c κs = let h = shape-is _ _ (sym (c .before .before .before .in-range .ensures) ∙ c .before .before .if1 .taken) in omega arith
+scratch-enough-requires c κs =
+    let at-in-range = c .before .before .before in
+    let h = shape-is _ _ (sym (at-in-range .in-range .ensures) ∙ c .before .before .if1 .taken) in omega arith
 
 same-length : tie.Need-same-length
 same-length c = search needs
@@ -20,13 +22,21 @@ same-length-2 c = search needs
 
 returns : tie.Need-returns
 returns c =
-    let s = c .before .before .before .before .before .before .before .before .before .before in
-    idles (s .args .table .now) (s .args .queue) (s .args .scratch .now) (sym (c .before .before .before .before .before .before .in-range .ensures) ∙ c .before .before .before .before .before .if1 .taken) (sym (c .before .before .scratch-enough .ensures) ∙ c .before .if2 .taken) (c .if3 .taken) _ refl refl
+    let at-if1 = c .before .before .before .before .before in
+    let at-in-range = at-if1 .before in
+    let s = at-in-range .before .before .before .before in
+    idles (s .args .table .now) (s .args .queue) (s .args .scratch .now) (sym (at-in-range .in-range .ensures) ∙ at-if1 .if1 .taken)
+    (sym (c .before .before .scratch-enough .ensures) ∙ c .before .if2 .taken) (c .if3 .taken) _ refl refl
 
 apply-oldest-requires : tie.Need-apply-oldest-requires
 apply-oldest-requires c κs =
-    let s = c .before .before .before .before .before .before .before .before .before .before .before .before in
-    waits (s .args .table .now) (s .args .queue) (s .args .scratch .now) (sym (c .before .before .before .before .before .before .before .before .in-range .ensures) ∙ c .before .before .before .before .before .before .before .if1 .taken) (sym (c .before .before .before .before .scratch-enough .ensures) ∙ c .before .before .before .if2 .taken) (c .before .before .if3 .left)
+    let at-if2 = c .before .before .before in
+    let at-scratch-enough = at-if2 .before in
+    let at-if1 = at-scratch-enough .before .before .before in
+    let at-in-range = at-if1 .before in
+    let s = at-in-range .before .before .before .before in
+    waits (s .args .table .now) (s .args .queue) (s .args .scratch .now) (sym (at-in-range .in-range .ensures) ∙ at-if1 .if1 .taken)
+    (sym (at-scratch-enough .scratch-enough .ensures) ∙ at-if2 .if2 .taken) (c .before .before .if3 .left)
 
 same-length-3 : tie.Need-same-length-3
 same-length-3 c = search needs
@@ -36,10 +46,17 @@ same-length-4 c = search needs
 
 returns-2 : tie.Need-returns-2
 returns-2 c =
-    let s = c .before .before .before .before .before .before .before .before .before .before .before .before .before .before .before .before .before in
-    let h = sym (c .before .before .before .before .before .before .before .before .before .before .before .before .before .in-range .ensures) ∙ c .before .before .before .before .before .before .before .before .before .before .before .before .if1 .taken in
-    let k = sym (c .before .before .before .before .before .before .before .before .before .scratch-enough .ensures) ∙ c .before .before .before .before .before .before .before .before .if2 .taken in
-    applies (s .args .table .now) (s .args .queue) (s .args .scratch .now) (no-0 (s .args .table .now) (s .args .queue) (s .args .scratch .now) h k) (waits (s .args .table .now) (s .args .queue) (s .args .scratch .now) h k (c .before .before .before .before .before .before .before .if3 .left)) _ _ _ (c .before .before .before .before .apply-oldest .ensures)
+    let at-apply-oldest = c .before .before .before .before in
+    let at-if3 = at-apply-oldest .before .before .before in
+    let at-if2 = at-if3 .before in
+    let at-scratch-enough = at-if2 .before in
+    let at-if1 = at-scratch-enough .before .before .before in
+    let at-in-range = at-if1 .before in
+    let s = at-in-range .before .before .before .before in
+    let h = sym (at-in-range .in-range .ensures) ∙ at-if1 .if1 .taken in
+    let k = sym (at-scratch-enough .scratch-enough .ensures) ∙ at-if2 .if2 .taken in
+    applies (s .args .table .now) (s .args .queue) (s .args .scratch .now) (no-0 (s .args .table .now) (s .args .queue) (s .args .scratch .now) h k)
+    (waits (s .args .table .now) (s .args .queue) (s .args .scratch .now) h k (at-if3 .if3 .left)) _ _ _ (at-apply-oldest .apply-oldest .ensures)
 
 same-length-5 : tie.Need-same-length-5
 same-length-5 c = search needs
@@ -49,8 +66,11 @@ same-length-6 c = search needs
 
 returns-3 : tie.Need-returns-3
 returns-3 c =
-    let s = c .before .before .before .before .before .before .before .before .before in
-    refuses-2 (s .args .table .now) (s .args .queue) (s .args .scratch .now) (sym (c .before .before .before .before .before .in-range .ensures) ∙ c .before .before .before .before .if1 .taken) (sym (c .before .scratch-enough .ensures) ∙ c .if2 .left) _ refl refl
+    let at-if1 = c .before .before .before .before in
+    let at-in-range = at-if1 .before in
+    let s = at-in-range .before .before .before .before in
+    refuses-2 (s .args .table .now) (s .args .queue) (s .args .scratch .now) (sym (at-in-range .in-range .ensures) ∙ at-if1 .if1 .taken)
+    (sym (c .before .scratch-enough .ensures) ∙ c .if2 .left) _ refl refl
 
 same-length-7 : tie.Need-same-length-7
 same-length-7 c = search needs

@@ -47,14 +47,22 @@ same-length c = search needs
 
 returns : tie.Need-returns
 unfolding kindOf changesOf applyFitting
-returns c = let i = c .before .before .before .before .before .before .before .before .before .before .args in applied (i .table .now) _ (i .kind) (i .a) (i .b) reads (ap kindOf (c .before .before .before .before .before .before .before .before .match .keys1)) (cc)
+returns c =
+    let at-match = c .before .before .before .before .before .before .before .before in
+    let start = at-match .before .before in
+    let i = start .args in
+    applied (i .table .now) _ (i .kind) (i .a) (i .b) reads (ap kindOf (at-match .match .keys1)) (cc)
 
 same-length-2 : tie.Need-same-length-2
 same-length-2 c = search needs
 
 returns-2 : tie.Need-returns-2
 unfolding kindOf changesOf applyFitting
-returns-2 c = let i = c .before .before .before .before .before .before .before .before .before .before .before .before .before .before .before .before .before .before .args in applied (i .table .now) _ (i .kind) (i .a) (i .b) makes (ap kindOf (c .before .before .before .before .before .before .before .before .before .before .before .before .before .before .before .before .match .keys2)) (cc)
+returns-2 c =
+    let at-match = c .before .before .before .before .before .before .before .before .before .before .before .before .before .before .before .before in
+    let start = at-match .before .before in
+    let i = start .args in
+    applied (i .table .now) _ (i .kind) (i .a) (i .b) makes (ap kindOf (at-match .match .keys2)) (cc)
 
 same-length-3 : tie.Need-same-length-3
 same-length-3 c = search needs
@@ -62,23 +70,34 @@ same-length-3 c = search needs
 returns-3 : tie.Need-returns-3
 unfolding kindOf changesOf applyFitting
 returns-3 c =
-    let i = c .before .before .before .before .before .before .before .before .before .before .before .before .before .before .args in
-    ⊎-elim (λ e. applied (i .table .now) _ (i .kind) (i .a) (i .b) (replaces left) (ap kindOf e) (cc)) (λ e. applied (i .table .now) _ (i .kind) (i .a) (i .b) (replaces right) (ap kindOf e) (cc))
-    (c .before .before .before .before .before .before .before .before .before .before .before .before .match .keys3)
+    let at-match = c .before .before .before .before .before .before .before .before .before .before .before .before in
+    let start = at-match .before .before in
+    let i = start .args in
+    ⊎-elim (λ e. applied (i .table .now) _ (i .kind) (i .a) (i .b) (replaces left) (ap kindOf e) (cc))
+    (λ e. applied (i .table .now) _ (i .kind) (i .a) (i .b) (replaces right) (ap kindOf e) (cc))
+    (at-match .match .keys3)
 
 same-length-4 : tie.Need-same-length-4
 same-length-4 c = search needs
 
 returns-4 : tie.Need-returns-4
 unfolding kindOf changesOf applyFitting
-returns-4 c = let i = c .before .before .before .before .before .before .args in applied (i .table .now) _ (i .kind) (i .a) (i .b) raises (ap kindOf (c .before .before .before .before .match .keys4)) (cc)
+returns-4 c =
+    let at-match = c .before .before .before .before in
+    let start = at-match .before .before in
+    let i = start .args in
+    applied (i .table .now) _ (i .kind) (i .a) (i .b) raises (ap kindOf (at-match .match .keys4)) (cc)
 
 same-length-5 : tie.Need-same-length-5
 same-length-5 c = search needs
 
 returns-5 : tie.Need-returns-5
 unfolding kindOf changesOf applyFitting
-returns-5 c = let i = c .before .before .before .before .before .before .args in applied (i .table .now) _ (i .kind) (i .a) (i .b) lowers (ap kindOf (c .before .before .before .before .match .keys5)) (cc)
+returns-5 c =
+    let at-match = c .before .before .before .before in
+    let start = at-match .before .before in
+    let i = start .args in
+    applied (i .table .now) _ (i .kind) (i .a) (i .b) lowers (ap kindOf (at-match .match .keys5)) (cc)
 
 returns-6 : tie.Need-returns-6
 unfolding changesOf applyFitting

@@ -21,21 +21,35 @@ cast-place : tie.Need-cast-place
 cast-place c = search needs
 
 cell-count-requires : tie.Need-cell-count-requires
-cell-count-requires c κs = let b = bounds _ _ (told _ (c .before .before .before .capacity-of .ensures) (c .before .before .is-cell .ensures) (c .before .if1 .taken)) in omega arith
+cell-count-requires c κs =
+    let at-capacity-of = c .before .before .before in
+    let b = bounds _ _ (told _ (at-capacity-of .capacity-of .ensures) (c .before .before .is-cell .ensures) (c .before .if1 .taken)) in omega arith
 
 lowered-requires : tie.Need-lowered-requires
 lowered-requires c κs = search needs
 
 set-cell-count-requires : tie.Need-set-cell-count-requires
-set-cell-count-requires c κs = let b = bounds _ _ (told _ (c .before .before .before .before .before .before .capacity-of .ensures) (c .before .before .before .before .before .is-cell .ensures) (c .before .before .before .before .if1 .taken)) in omega arith
+set-cell-count-requires c κs =
+    let at-if1 = c .before .before .before .before in
+    let at-is-cell = at-if1 .before in
+    let at-capacity-of = at-is-cell .before in
+    let b = bounds _ _ (told _ (at-capacity-of .capacity-of .ensures) (at-is-cell .is-cell .ensures) (at-if1 .if1 .taken)) in omega arith
 
 same-length : tie.Need-same-length
 same-length c = search needs
 
 returns : tie.Need-returns
 returns c =
-    let i = c .before .before .before .before .before .before .before .before .before .before .before .before .args in
-    moves-lowered (i .table .now) cell (i .w) (i .n) _ _ (told _ (c .before .before .before .before .before .before .before .before .before .capacity-of .ensures) (c .before .before .before .before .before .before .before .before .is-cell .ensures) (c .before .before .before .before .before .before .before .if1 .taken)) refl (c .before .before .before .lowered .ensures ∙ ap (_- (c .before .before .before .before .before .before .before .before .before .before .before .before .args .n)) (c .before .before .before .before .before .cell-count .ensures)) _ (c .before .before .set-cell-count .ensures)
+    let at-lowered = c .before .before .before in
+    let at-cell-count = at-lowered .before .before in
+    let at-if1 = at-cell-count .before .before in
+    let at-is-cell = at-if1 .before in
+    let at-capacity-of = at-is-cell .before in
+    let start = at-capacity-of .before .before .before in
+    let i = start .args in
+    moves-lowered (i .table .now) cell (i .w) (i .n) _ _
+    (told _ (at-capacity-of .capacity-of .ensures) (at-is-cell .is-cell .ensures) (at-if1 .if1 .taken)) refl
+    (at-lowered .lowered .ensures ∙ ap (_- (start .args .n)) (at-cell-count .cell-count .ensures)) _ (c .before .before .set-cell-count .ensures)
 
 same-length-2 : tie.Need-same-length-2
 same-length-2 c = search needs

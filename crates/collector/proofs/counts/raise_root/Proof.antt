@@ -1,5 +1,4 @@
-use mathlib.Core.Path.{refl, ap, _∙_}
-use Prim.Native.Nat.{_-_}
+use mathlib.Core.Path.{refl}
 use native.Mathlib.Omega.{arith}
 use borrow.Author.Needs.{needs}
 use Rattle.machine.specs.Packets.{root}
@@ -21,21 +20,35 @@ cast-place : tie.Need-cast-place
 cast-place c = search needs
 
 root-count-requires : tie.Need-root-count-requires
-root-count-requires c κs = let b = bounds _ _ (told _ (c .before .before .before .capacity-of .ensures) (c .before .before .is-cell .ensures) (c .before .if1 .taken)) in omega arith
+root-count-requires c κs =
+    let at-capacity-of = c .before .before .before in
+    let b = bounds _ _ (told _ (at-capacity-of .capacity-of .ensures) (c .before .before .is-cell .ensures) (c .before .if1 .taken)) in omega arith
 
 raised-requires : tie.Need-raised-requires
 raised-requires c κs = search needs
 
 set-root-count-requires : tie.Need-set-root-count-requires
-set-root-count-requires c κs = let b = bounds _ _ (told _ (c .before .before .before .before .before .before .capacity-of .ensures) (c .before .before .before .before .before .is-cell .ensures) (c .before .before .before .before .if1 .taken)) in omega arith
+set-root-count-requires c κs =
+    let at-if1 = c .before .before .before .before in
+    let at-is-cell = at-if1 .before in
+    let at-capacity-of = at-is-cell .before in
+    let b = bounds _ _ (told _ (at-capacity-of .capacity-of .ensures) (at-is-cell .is-cell .ensures) (at-if1 .if1 .taken)) in omega arith
 
 same-length : tie.Need-same-length
 same-length c = search needs
 
 returns : tie.Need-returns
 returns c =
-    let i = c .before .before .before .before .before .before .before .before .before .before .before .before .args in
-    moves-raised (i .table .now) root (i .w) (i .n) _ _ (told _ (c .before .before .before .before .before .before .before .before .before .capacity-of .ensures) (c .before .before .before .before .before .before .before .before .is-cell .ensures) (c .before .before .before .before .before .before .before .if1 .taken)) refl (rw (c .before .before .before .before .before .root-count .ensures) at (c .before .before .before .raised .ensures)) _ (c .before .before .set-root-count .ensures)
+    let at-raised = c .before .before .before in
+    let at-root-count = at-raised .before .before in
+    let at-if1 = at-root-count .before .before in
+    let at-is-cell = at-if1 .before in
+    let at-capacity-of = at-is-cell .before in
+    let start = at-capacity-of .before .before .before in
+    let i = start .args in
+    moves-raised (i .table .now) root (i .w) (i .n) _ _
+    (told _ (at-capacity-of .capacity-of .ensures) (at-is-cell .is-cell .ensures) (at-if1 .if1 .taken)) refl
+    (rw (at-root-count .root-count .ensures) at (at-raised .raised .ensures)) _ (c .before .before .set-root-count .ensures)
 
 same-length-2 : tie.Need-same-length-2
 same-length-2 c = search needs

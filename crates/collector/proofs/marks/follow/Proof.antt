@@ -21,14 +21,19 @@ loop-holds : tie.Need-loop-holds Inv-loop μ-loop
 loop-holds c = let s = c .before .before in (following-start (s .args .c) (s .args .table .now) _ (s .pre), refl, refl)
 
 visit-requires : tie.Need-visit-requires Inv-loop μ-loop
-visit-requires c κs = let s = c .before .before .before .before .before in to-visit _ _ _ _ (c .before .before .loop .inv .0) (omega arith) (s .pre .room) (s .pre .most)
+visit-requires c κs =
+    let s = c .before .before .before .before .before in
+    to-visit _ _ _ _ (c .before .before .loop .inv .0) (omega arith) (s .pre .room) (s .pre .most)
 
 loop-less : tie.Need-loop-less Inv-loop μ-loop
-loop-less c = less-work _ _ _ _ (c .before .before .before .before .before .loop .inv .0) (omega arith) _ (c .before .before .visit .ensures)
+loop-less c =
+    let at-loop = c .before .before .before .before .before in
+    less-work _ _ _ _ (at-loop .loop .inv .0) (omega arith) _ (c .before .before .visit .ensures)
 
 loop-again : tie.Need-loop-again Inv-loop μ-loop
 loop-again c =
-    let v = c .before .before .before .before .before .loop .inv in
+    let at-loop = c .before .before .before .before .before in
+    let v = at-loop .loop .inv in
     let p = c .before .before .visit .ensures in
     (still-following _ _ _ _ (v .0) (omega arith) _ p, same-past _ _ _ _ (v .0) (omega arith) _ p ∙ v .1, omega arith)
 

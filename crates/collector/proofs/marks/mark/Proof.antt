@@ -16,16 +16,25 @@ push-named-requires c κs = search needs
 
 follow-requires : tie.Need-follow-requires
 follow-requires c κs =
-    let s = c .before .before .before .before .before .before .before .before .before .before .before .before .before .before .before in
-    ready-followable (s .args .table .now) (s .args .queue) (s .args .scratch .now) (s .args .c) (s .pre) _ (made-ready (s .args .table .now) (s .args .queue) (s .args .scratch .now) (s .args .c) (s .pre) _ _ _ (ap (λ u. stack u 0) (c .before .before .before .before .before .before .before .before .before .before .before .clear .ensures)) (c .before .before .before .before .before .before .before .push-rooted .ensures) (c .before .before .before .push-named .ensures))
+    let at-push-named = c .before .before .before in
+    let at-push-rooted = at-push-named .before .before .before .before in
+    let at-clear = at-push-rooted .before .before .before .before in
+    let s = at-clear .before .before .before .before in
+    ready-followable (s .args .table .now) (s .args .queue) (s .args .scratch .now) (s .args .c) (s .pre) _
+    (made-ready (s .args .table .now) (s .args .queue) (s .args .scratch .now) (s .args .c) (s .pre) _ _ _ (ap (λ u. stack u 0) (at-clear .clear .ensures)) (at-push-rooted .push-rooted .ensures) (at-push-named .push-named .ensures))
 
 same-length : tie.Need-same-length
 same-length c = search needs
 
 returns : tie.Need-returns
 returns c =
-    let s = c .before .before .before .before .before .before .before .before .before .before .before .before .before .before .before .before .before .before in
-    marked (s .args .table .now) (s .args .queue) (s .args .scratch .now) (s .args .c) (s .pre) _ (made-ready (s .args .table .now) (s .args .queue) (s .args .scratch .now) (s .args .c) (s .pre) _ _ _ (ap (λ u. stack u 0) (c .before .before .before .before .before .before .before .before .before .before .before .before .before .before .clear .ensures)) (c .before .before .before .before .before .before .before .before .before .before .push-rooted .ensures) (c .before .before .before .before .before .before .push-named .ensures)) _ (c .before .before .follow .ensures)
+    let at-push-named = c .before .before .before .before .before .before in
+    let at-push-rooted = at-push-named .before .before .before .before in
+    let at-clear = at-push-rooted .before .before .before .before in
+    let s = at-clear .before .before .before .before in
+    marked (s .args .table .now) (s .args .queue) (s .args .scratch .now) (s .args .c) (s .pre) _
+    (made-ready (s .args .table .now) (s .args .queue) (s .args .scratch .now) (s .args .c) (s .pre) _ _ _ (ap (λ u. stack u 0) (at-clear .clear .ensures)) (at-push-rooted .push-rooted .ensures) (at-push-named .push-named .ensures))
+    _ (c .before .before .follow .ensures)
 
 pub mark-spec : {M : Type 1} → statement M
 mark-spec =

@@ -34,13 +34,21 @@ same-length : tie.Need-same-length
 same-length c = search needs
 
 returns : tie.Need-returns
-returns c = let s = c .before .before .before .before .before in push-new _ _ (s .args .scratch .now) _ (sym (c .before .before .before .is-cell .ensures) ∙ c .before .before .if1 .taken) (c .if2 .taken)
+returns c =
+    let at-is-cell = c .before .before .before in
+    let s = at-is-cell .before .before in
+    push-new _ _ (s .args .scratch .now) _ (sym (at-is-cell .is-cell .ensures) ∙ c .before .before .if1 .taken) (c .if2 .taken)
 
 returns-2 : tie.Need-returns-2
-returns-2 c = let s = c .before .before .before .before .before in push-met _ _ (s .args .scratch .now) _ (s .pre .2) (sym (c .before .before .before .is-cell .ensures) ∙ c .before .before .if1 .taken) (c .if2 .left)
+returns-2 c =
+    let at-is-cell = c .before .before .before in
+    let s = at-is-cell .before .before in
+    push-met _ _ (s .args .scratch .now) _ (s .pre .2) (sym (at-is-cell .is-cell .ensures) ∙ c .before .before .if1 .taken) (c .if2 .left)
 
 returns-3 : tie.Need-returns-3
-returns-3 c = let s = c .before .before .before in push-none _ _ (s .args .scratch .now) _ (s .pre .2) (sym (c .before .is-cell .ensures) ∙ c .if1 .left)
+returns-3 c =
+    let s = c .before .before .before in
+    push-none _ _ (s .args .scratch .now) _ (s .pre .2) (sym (c .before .is-cell .ensures) ∙ c .if1 .left)
 
 pub push-spec : {M : Type 1} → statement M
 push-spec =

@@ -18,10 +18,16 @@ same-length : tie.Need-same-length
 same-length c = search needs
 
 returns : tie.Need-returns
-returns c = let s = c .before .before .before .before .before .before .before .before in if-rooted (s .args .table .now) _ _ _ (sym (c .before .before .before .before .before .rooted .ensures) ∙ c .before .before .before .before .if1 .taken) _ (c .before .before .push .ensures)
+returns c =
+    let at-if1 = c .before .before .before .before in
+    let at-rooted = at-if1 .before in
+    let s = at-rooted .before .before .before in
+    if-rooted (s .args .table .now) _ _ _ (sym (at-rooted .rooted .ensures) ∙ at-if1 .if1 .taken) _ (c .before .before .push .ensures)
 
 returns-2 : tie.Need-returns-2
-returns-2 c = let s = c .before .before .before .before in unrooted (s .args .table .now) _ _ _ (sym (c .before .rooted .ensures) ∙ c .if1 .left) (omega arith)
+returns-2 c =
+    let s = c .before .before .before .before in
+    unrooted (s .args .table .now) _ _ _ (sym (c .before .rooted .ensures) ∙ c .if1 .left) (omega arith)
 
 pub push-if-rooted-spec : {M : Type 1} → statement M
 push-if-rooted-spec =

@@ -67,15 +67,17 @@ loop-less c = search needs
 loop-again : tie.Need-loop-again Inv-loop μ-loop
 unfolding slot
 loop-again c =
-    let l = c .before .before .before .before .before .before .before .before .before .loop in
-    let s = c .before .before .before .before .before .before .before .before .before .before .before in
+    let at-loop = c .before .before .before .before .before .before .before .before .before in
+    let s = at-loop .before .before in
+    let l = at-loop .loop in
     let q = s .args .t1 in
     let v = l .inv in (
       omega arith,
       v .1,
       v .2,
       omega arith,
-      named-push (s .args .c) q (q .place) (l .i) (stack (s .args .scratch .now) (s .args .first)) (stack (l .scratch) (l .top)) _ (v .4) (c .before .before .push-names .ensures),
+      named-push (s .args .c) q (q .place) (l .i) (stack (s .args .scratch .now) (s .args .first)) (stack (l .scratch) (l .top)) _ (v .4)
+          (c .before .before .push-names .ensures),
     )
 
 same-length : tie.Need-same-length Inv-loop μ-loop

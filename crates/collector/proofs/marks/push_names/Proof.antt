@@ -22,7 +22,11 @@ same-length c = search needs
 returns : tie.Need-returns
 unfolding threeNames
 returns c =
-    three-pushed _ _ _ _ _ (c .before .before .before .before .before .before .before .before .before .before .before .before .names-of .ensures) _ _ _ _ (c .before .before .before .before .before .before .before .before .before .before .push .ensures) (c .before .before .before .before .before .before .push2 .ensures) (c .before .before .push3 .ensures)
+    let at-push2 = c .before .before .before .before .before .before in
+    let at-push = at-push2 .before .before .before .before in
+    let at-names-of = at-push .before .before in
+    three-pushed _ _ _ _ _ (at-names-of .names-of .ensures) _ _ _ _ (at-push .push .ensures) (at-push2 .push2 .ensures)
+    (c .before .before .push3 .ensures)
 
 pub push-names-spec : {M : Type 1} → statement M
 push-names-spec =

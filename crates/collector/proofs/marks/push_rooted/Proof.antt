@@ -29,11 +29,13 @@ loop-less c = search needs
 
 loop-again : tie.Need-loop-again Inv-loop μ-loop
 loop-again c =
-    let l = c .before .before .before .before .before .loop in
-    let s = c .before .before .before .before .before .before .before .before in (
+    let at-loop = c .before .before .before .before .before in
+    let s = at-loop .before .before .before in
+    let l = at-loop .loop in (
       omega arith,
       omega arith,
-      rooted-more (s .args .table .now) (s .args .c) (l .i) (stack (s .args .scratch .now) 0) (stack (l .scratch) (l .top)) _ (l .inv .2) (c .before .before .push-if-rooted .ensures),
+      rooted-more (s .args .table .now) (s .args .c) (l .i) (stack (s .args .scratch .now) 0) (stack (l .scratch) (l .top)) _ (l .inv .2)
+          (c .before .before .push-if-rooted .ensures),
     )
 
 same-length : tie.Need-same-length Inv-loop μ-loop
@@ -41,8 +43,9 @@ same-length c = search needs
 
 returns : tie.Need-returns Inv-loop μ-loop
 returns c =
+    let start = c .before .before .before .before in
     let l = c .before .loop in
-    let e : l .i ≡ c .before .before .before .before .args .c = omega arith in
+    let e : l .i ≡ start .args .c = omega arith in
     rw e at (l .inv .2)
 
 pub push-rooted-spec : {M : Type 1} → statement M

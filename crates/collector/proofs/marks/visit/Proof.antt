@@ -36,14 +36,23 @@ field-requires-2 : tie.Need-field-requires-2
 field-requires-2 c κs = search needs
 
 push-requires-2 : tie.Need-push-requires-2
-push-requires-2 c κs = omega (arith, simp length-set at (c .before .before .before .before .push .kept .0))
+push-requires-2 c κs =
+    let at-push = c .before .before .before .before in
+    omega (arith, simp length-set at (at-push .push .kept .0))
 
 same-length : tie.Need-same-length
-same-length c = omega (arith, simp length-set at (c .before .before .before .before .before .before .before .push .kept .0))
+same-length c =
+    let at-push = c .before .before .before .before .before .before .before in
+    omega (arith, simp length-set at (at-push .push .kept .0))
 
 returns : tie.Need-returns
-returns c = let s = c .before .before .before .before .before .before .before .before .before .before .before .before .before in
-    visit-is (s .args .table .now) (s .args .c) (s .args .scratch .now) (s .args .top) _ _ _ _ (c .before .before .before .before .before .before .before .before .field .ensures) (c .before .before .before .field2 .ensures) (c .before .before .before .before .before .before .before .push .ensures) (c .before .before .push2 .ensures)
+returns c =
+    let at-field2 = c .before .before .before in
+    let at-push = at-field2 .before .before .before .before in
+    let at-field = at-push .before in
+    let s = at-field .before .before .before .before .before in
+    visit-is (s .args .table .now) (s .args .c) (s .args .scratch .now) (s .args .top) _ _ _ _ (at-field .field .ensures) (at-field2 .field2 .ensures)
+    (at-push .push .ensures) (c .before .before .push2 .ensures)
 
 pub visit-spec : {M : Type 1} → statement M
 visit-spec =

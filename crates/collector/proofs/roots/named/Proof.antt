@@ -61,10 +61,12 @@ loop-less c = search needs
 loop-again : tie.Need-loop-again Inv-loop μ-loop
 unfolding slot threeNames
 loop-again c =
-    let l = c .before .before .before .before .before .before .loop in
-    let q = c .before .before .before .before .before .before .before .args .t1 in
+    let at-loop = c .before .before .before .before .before .before in
+    let start = at-loop .before in
+    let l = at-loop .loop in
+    let q = start .args .t1 in
     let v = l .inv in
-    (omega arith, v .1, v .2, v .3, named-more q (q .place) (l .i) (c .before .before .before .before .before .before .before .args .w) (l .found) _ (v .3) (v .4) (c .or-named .ensures))
+    (omega arith, v .1, v .2, v .3, named-more q (q .place) (l .i) (start .args .w) (l .found) _ (v .3) (v .4) (c .or-named .ensures))
 
 returns : tie.Need-returns Inv-loop μ-loop
 unfolding waiting

@@ -19,11 +19,20 @@ stays-root-requires-3 c κs = search needs
 
 returns : tie.Need-returns
 unfolding stayRoots threeNames
-returns c = c .stays-root3 .ensures ∙ every-third _ _ _ _ _ (c .before .before .before .before .before .names-of .ensures) (sym (c .before .before .before .before .stays-root .ensures) ∙ c .before .before .before .if1 .taken) (sym (c .before .before .stays-root2 .ensures) ∙ c .before .if2 .taken)
+returns c =
+    let at-if1 = c .before .before .before in
+    let at-stays-root = at-if1 .before in
+    let at-names-of = at-stays-root .before in
+    c .stays-root3 .ensures ∙ every-third _ _ _ _ _ (at-names-of .names-of .ensures) (sym (at-stays-root .stays-root .ensures) ∙ at-if1 .if1 .taken)
+    (sym (c .before .before .stays-root2 .ensures) ∙ c .before .if2 .taken)
 
 returns-2 : tie.Need-returns-2
 unfolding stayRoots threeNames
-returns-2 c = every-second _ _ _ _ _ (c .before .before .before .before .names-of .ensures) (sym (c .before .before .before .stays-root .ensures) ∙ c .before .before .if1 .taken) (sym (c .before .stays-root2 .ensures) ∙ c .if2 .left)
+returns-2 c =
+    let at-stays-root = c .before .before .before in
+    let at-names-of = at-stays-root .before in
+    every-second _ _ _ _ _ (at-names-of .names-of .ensures) (sym (at-stays-root .stays-root .ensures) ∙ c .before .before .if1 .taken)
+    (sym (c .before .stays-root2 .ensures) ∙ c .if2 .left)
 
 returns-3 : tie.Need-returns-3
 unfolding stayRoots threeNames

@@ -22,13 +22,25 @@ rooted-requires : tie.Need-rooted-requires
 rooted-requires c κs = let b = bounds _ _ (told _ (c .before .before .capacity-of .ensures) (c .before .is-cell .ensures) (c .if1 .taken)) in omega arith
 
 returns : tie.Need-returns
-returns c = stays-rooted _ _ _ (told _ (c .before .before .before .before .capacity-of .ensures) (c .before .before .before .is-cell .ensures) (c .before .before .if1 .taken)) (sym (c .before .rooted .ensures) ∙ c .if2 .taken)
+returns c =
+    let at-is-cell = c .before .before .before in
+    let at-capacity-of = at-is-cell .before in
+    stays-rooted _ _ _ (told _ (at-capacity-of .capacity-of .ensures) (at-is-cell .is-cell .ensures) (c .before .before .if1 .taken))
+    (sym (c .before .rooted .ensures) ∙ c .if2 .taken)
 
 named-requires : tie.Need-named-requires
-named-requires c κs = let b = bounds _ _ (told _ (c .before .before .before .before .capacity-of .ensures) (c .before .before .before .is-cell .ensures) (c .before .before .if1 .taken)) in omega arith
+named-requires c κs =
+    let at-is-cell = c .before .before .before in
+    let at-capacity-of = at-is-cell .before in
+    let b = bounds _ _ (told _ (at-capacity-of .capacity-of .ensures) (at-is-cell .is-cell .ensures) (c .before .before .if1 .taken)) in omega arith
 
 returns-2 : tie.Need-returns-2
-returns-2 c = c .named .ensures ∙ stays-named _ _ _ (told _ (c .before .before .before .before .before .capacity-of .ensures) (c .before .before .before .before .is-cell .ensures) (c .before .before .before .if1 .taken)) (sym (c .before .before .rooted .ensures) ∙ c .before .if2 .left)
+returns-2 c =
+    let at-if1 = c .before .before .before in
+    let at-is-cell = at-if1 .before in
+    let at-capacity-of = at-is-cell .before in
+    c .named .ensures ∙ stays-named _ _ _ (told _ (at-capacity-of .capacity-of .ensures) (at-is-cell .is-cell .ensures) (at-if1 .if1 .taken))
+    (sym (c .before .before .rooted .ensures) ∙ c .before .if2 .left)
 
 returns-3 : tie.Need-returns-3
 returns-3 c = stays-none _ _ _ (told _ (c .before .before .capacity-of .ensures) (c .before .is-cell .ensures) (c .if1 .left))

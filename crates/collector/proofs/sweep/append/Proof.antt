@@ -1,4 +1,3 @@
-use mathlib.Core.Path.{sym, _∙_}
 use borrow.Author.Needs.{needs}
 use Rattle.collector.proofs.Swept.{append-none, append-some}
 use Rattle.collector.proofs.sweep.append.Statement.{statement}
@@ -27,7 +26,13 @@ same-length c = search needs
 
 returns : tie.Need-returns
 returns c =
-    let i = c .before .before .before .before .before .before .before .before .before .before .before .before .before .before .args in cc (append-none (i .table .now) (i .place) (sym (c .before .before .before .before .before .before .before .before .before .last-free .ensures) ∙ c .before .before .before .before .if1 .taken))
+    let at-if1 = c .before .before .before .before in
+    let at-set-cell = at-if1 .before .before .before in
+    let at-last-free = at-set-cell .before .before in
+    let start = at-last-free .before .before .before .before .before in
+    let i = start .args in
+    append-none (i .table .now) (i .place) _ (at-last-free .last-free .ensures) _ (at-set-cell .set-cell .ensures) (at-if1 .if1 .taken) _
+    (c .before .before .set-ends .ensures)
 
 sub-set-field : tie.Need-sub-set-field
 sub-set-field c = search needs
@@ -52,7 +57,15 @@ same-length-2 c = search needs
 
 returns-2 : tie.Need-returns-2
 returns-2 c =
-    let i = c .before .before .before .before .before .before .before .before .before .before .before .before .before .before .before .before .before .before .args in cc (append-some (i .table .now) (i .place) (λ e. c .before .before .before .before .before .before .before .before .if1 .left (c .before .before .before .before .before .before .before .before .before .before .before .before .before .last-free .ensures ∙ e)))
+    let at-set-field = c .before .before .before .before .before .before in
+    let at-if1 = at-set-field .before .before in
+    let at-set-cell = at-if1 .before .before .before in
+    let at-last-free = at-set-cell .before .before in
+    let at-first-free = at-last-free .before .before in
+    let start = at-first-free .before .before .before in
+    let i = start .args in
+    append-some (i .table .now) (i .place) _ (at-last-free .last-free .ensures) _ (at-set-cell .set-cell .ensures) (at-if1 .if1 .left) _
+    (at-first-free .first-free .ensures) _ _ (at-set-field .set-field .ensures) (c .before .before .set-ends2 .ensures)
 
 pub append-spec : {M : Type 1} → statement M
 append-spec =

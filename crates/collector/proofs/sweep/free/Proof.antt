@@ -1,6 +1,5 @@
+use Rattle.collector.proofs.Swept.{free-is}
 use borrow.Author.Needs.{needs}
-use Rattle.collector.specs.Sweeping.{freed}
-use Rattle.collector.specs.Fitting.{moveFitting}
 use Rattle.collector.proofs.sweep.free.Statement.{statement}
 use Rattle.collector.proofs.sweep.free.Tie as tie
 
@@ -20,8 +19,14 @@ same-length : tie.Need-same-length
 same-length c = search needs
 
 returns : tie.Need-returns
-unfolding freed moveFitting
-returns c = cc
+returns c =
+    let at-lower-cell2 = c .before .before .before .before .before .before in
+    let at-lower-cell = at-lower-cell2 .before .before .before .before in
+    let at-field = at-lower-cell .before .before in
+    let start = at-field .before .before .before in
+    let i = start .args in
+    free-is (i .table .now) (i .place) (i .left) _ (at-field .field .ensures) _ _ _ (at-lower-cell .lower-cell .ensures)
+    (at-lower-cell2 .lower-cell2 .ensures) (c .before .before .append .ensures)
 
 pub free-spec : {M : Type 1} → statement M
 free-spec =

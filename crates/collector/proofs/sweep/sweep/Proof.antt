@@ -30,18 +30,23 @@ end-left-requires c κs = search needs
 
 loop-holds : tie.Need-loop-holds Inv-loop μ-loop
 unfolding select
-loop-holds c = let i = c .before .before .before .before .before .before .before .before .args in (omega arith, refl, passed-none (i .table .now) (i .scratch .now), refl)
+loop-holds c =
+    let start = c .before .before .before .before .before .before .before .before in
+    let i = start .args in
+    (omega arith, refl, passed-none (i .table .now) (i .scratch .now), refl)
 
 sweep-cell-requires : tie.Need-sweep-cell-requires Inv-loop μ-loop
 sweep-cell-requires c κs =
-    let l = c .before .before .loop in
     let s = c .before .before .before .before .before .before .before .before .before .before .before in
+    let l = c .before .before .loop in
     at-place (s .args .table .now) (s .args .scratch .now) (s .pre) (l .i) (omega arith) (l .table) (l .inv .2)
 
 add-freed : tie.Need-add-freed Inv-loop μ-loop
 add-freed c =
-    let l = c .before .before .before .before .before .loop in
-    let i = c .before .before .before .before .before .before .before .before .before .before .before .before .before .before .args in
+    let at-loop = c .before .before .before .before .before in
+    let start = at-loop .before .before .before .before .before .before .before .before .before in
+    let l = at-loop .loop in
+    let i = start .args in
     omega (arith, length-select-le (l .i) (isDead (i .table .now) (i .scratch .now)))
 
 add-i : tie.Need-add-i Inv-loop μ-loop
@@ -52,15 +57,18 @@ loop-less c = search needs
 
 loop-again : tie.Need-loop-again Inv-loop μ-loop
 loop-again c =
-    let l = c .before .before .before .before .before .loop in
-    let s = c .before .before .before .before .before .before .before .before .before .before .before .before .before .before in
+    let at-loop = c .before .before .before .before .before in
+    let at-end-left = at-loop .before in
+    let at-last-free = at-end-left .before .before in
+    let s = at-last-free .before .before .before .before .before .before in
+    let l = at-loop .loop in
     let t = s .args .table .now in
     let m = s .args .scratch .now in
     let p = c .before .before .sweep-cell .ensures in
     let h : l .i < capacity t = omega arith in (
       omega arith,
       omega arith,
-      pass-table t m (s .pre) (l .i) h (l .table) _ _ _ _ (l .inv .2) (c .before .before .before .before .before .before .before .before .last-free .ensures) (c .before .before .before .before .before .before .end-left .ensures) p,
+      pass-table t m (s .pre) (l .i) h (l .table) _ _ _ _ (l .inv .2) (at-last-free .last-free .ensures) (at-end-left .end-left .ensures) p,
       pass-number t m (s .pre) (l .i) h (l .table) _ _ _ _ (l .freed) (l .inv .2) p (l .inv .3),
     )
 
@@ -69,8 +77,8 @@ same-length c = search needs
 
 returns : tie.Need-returns Inv-loop μ-loop
 returns c =
-    let l = c .before .loop in
     let s = c .before .before .before .before .before .before .before .before .before .before in
+    let l = c .before .loop in
     sweeps-all (s .args .table .now) (s .args .scratch .now) (s .pre) (l .i) (omega arith) (l .table) (l .freed) (l .inv .2) (l .inv .3)
 
 pub sweep-spec : {M : Type 1} → statement M

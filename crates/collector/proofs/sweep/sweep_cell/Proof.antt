@@ -12,7 +12,10 @@ shared-slice-read-if1 : tie.Need-shared-slice-read-if1
 shared-slice-read-if1 c = search needs
 
 returns : tie.Need-returns
-returns c = let i = c .before .before .before .before .args in passes-live _ _ _ _ _ (marked-live (i .table .now) (i .scratch .now) (i .place) (c .if1 .taken))
+returns c =
+    let start = c .before .before .before .before in
+    let i = start .args in
+    passes-live _ _ _ _ _ (marked-live (i .table .now) (i .scratch .now) (i .place) (c .if1 .taken))
 
 in-use-requires : tie.Need-in-use-requires
 in-use-requires c κs = search needs
@@ -28,17 +31,26 @@ same-length c = search needs
 
 returns-2 : tie.Need-returns-2
 returns-2 c =
-    let i = c .before .before .before .before .before .before .before .before .before .before .before .before .before .args in
-    passes-dead _ _ _ _ _ (unmarked-dead (i .table .now) (i .scratch .now) (i .place) (c .before .before .before .before .before .before .before .before .before .if1 .left) ∙ sym (c .before .before .before .before .before .before .before .in-use .ensures) ∙ c .before .before .before .before .before .before .if2 .taken)
-    _ (c .before .before .free .ensures ∙ ap (freed (i .table .now) (i .place)) (c .before .before .before .before .left-before .ensures))
+    let at-left-before = c .before .before .before .before in
+    let at-if2 = at-left-before .before .before in
+    let at-in-use = at-if2 .before in
+    let at-if1 = at-in-use .before .before in
+    let start = at-if1 .before .before .before .before in
+    let i = start .args in
+    passes-dead _ _ _ _ _
+    (unmarked-dead (i .table .now) (i .scratch .now) (i .place) (at-if1 .if1 .left) ∙ sym (at-in-use .in-use .ensures) ∙ at-if2 .if2 .taken)
+    _ (c .before .before .free .ensures ∙ ap (freed (i .table .now) (i .place)) (at-left-before .left-before .ensures))
 
 same-length-2 : tie.Need-same-length-2
 same-length-2 c = search needs
 
 returns-3 : tie.Need-returns-3
 returns-3 c =
-    let i = c .before .before .before .before .before .before .before .args in
-    passes-live _ _ _ _ _ (unmarked-dead (i .table .now) (i .scratch .now) (i .place) (c .before .before .before .if1 .left) ∙ sym (c .before .in-use .ensures) ∙ c .if2 .left)
+    let at-if1 = c .before .before .before in
+    let start = at-if1 .before .before .before .before in
+    let i = start .args in
+    passes-live _ _ _ _ _
+    (unmarked-dead (i .table .now) (i .scratch .now) (i .place) (at-if1 .if1 .left) ∙ sym (c .before .in-use .ensures) ∙ c .if2 .left)
 
 pub sweep-cell-spec : {M : Type 1} → statement M
 sweep-cell-spec =
