@@ -1,0 +1,46 @@
+-- Tests that fail, and a range tested one number at a time.
+use mathlib.Core.Path.{_≡_, refl, sym, _∙_}
+use mathlib.Core.Logic.{⊎-elim}
+use mathlib.Core.Bool.{Bool, true, false, not, _&&_}
+use Prim.Native.Nat.{ℕ, zero, suc, _+_, _<_}
+use native.Mathlib.Numerals.{add-one}
+use borrow.Author.Tests.{not-true, not-false}
+use Rattle.machine.specs.Range.{every, total}
+use Rattle.machine.proofs.Range.{tested, not-both, and-both, every-at}
+
+-- what cannot be true is false
+pub refuted : (b : Bool) → (b ≡ true → ⊥) → b ≡ false
+refuted b f = ⊎-elim (λ e. absurd (f e)) (λ e. e) (tested b)
+
+-- a call's answer r is the test b: the code asks `!r`
+pub passed : {r b : Bool} → r ≡ b → not r ≡ false → b ≡ true
+passed {r} e h = sym e ∙ not-false r h
+
+pub failed : {r b : Bool} → r ≡ b → not r ≡ true → b ≡ false
+failed {r} e h = sym e ∙ not-true r h
+
+pub and-no-first : {a : Bool} (b : Bool) → a ≡ false → a && b ≡ false
+and-no-first b h = rw h
+
+pub and-no-second : (a : Bool) {b : Bool} → b ≡ false → a && b ≡ false
+and-no-second true h = h
+and-no-second false h = refl
+
+pub every-none : (p : ℕ → Bool) → every 0 p ≡ true
+unfolding every
+every-none p = refl
+
+pub every-more : (n : ℕ) (p : ℕ → Bool) → every n p ≡ true → p n ≡ true → every (n + 1) p ≡ true
+unfolding every
+every-more n p h k = rw add-one (and-both h k)
+
+pub every-fails : (n : ℕ) (p : ℕ → Bool) (i : ℕ) → i < n → p i ≡ false → every n p ≡ false
+every-fails n p i l h = refuted (every n p) (λ e. not-both (every-at n p e i l) h)
+
+pub total-none : (f : ℕ → ℕ) → 0 ≡ total 0 f
+unfolding total
+total-none f = refl
+
+pub total-more : (n : ℕ) (f : ℕ → ℕ) → total (n + 1) f ≡ total n f + f n
+unfolding total
+total-more n f = rw add-one

@@ -1,0 +1,3 @@
+// The audit: of any store, sound or the lowest-numbered rule broken.
+pub mod chain;
+pub mod fields;
