@@ -2,3 +2,5 @@
 pub mod Tests
 pub mod Cells
 pub mod Walk
+pub mod Words
+pub mod Replays

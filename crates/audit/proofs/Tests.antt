@@ -26,6 +26,22 @@ pub and-no-second : (a : Bool) {b : Bool} → b ≡ false → a && b ≡ false
 and-no-second true h = h
 and-no-second false h = refl
 
+pub and-decides : {a : Bool} (b : Bool) → a ≡ true → b ≡ a && b
+and-decides b h = rw h
+
+-- three tests in a row
+pub first-fails : {a : Bool} (b c : Bool) → a ≡ false → a && b && c ≡ false
+first-fails b c h = rw h
+
+pub second-fails : (a : Bool) {b : Bool} (c : Bool) → b ≡ false → a && b && c ≡ false
+second-fails a c h = and-no-first c (and-no-second a h)
+
+pub third-decides : {a b : Bool} (c : Bool) → a ≡ true → b ≡ true → c ≡ a && b && c
+third-decides c h k = rw (h, k)
+
+pub same-tests : (a b : Bool) → (a ≡ true → b ≡ true) → (b ≡ true → a ≡ true) → a ≡ b
+same-tests a b f g = ⊎-elim (λ e. e ∙ sym (f e)) (λ e. e ∙ sym (refuted b (λ h. not-both (g h) e))) (tested a)
+
 pub every-none : (p : ℕ → Bool) → every 0 p ≡ true
 unfolding every
 every-none p = refl

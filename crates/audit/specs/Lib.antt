@@ -1,3 +1,4 @@
 pub mod Room
 pub mod Cells
 pub mod Chain
+pub mod Packets
