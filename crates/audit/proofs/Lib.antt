@@ -4,3 +4,6 @@ pub mod Cells
 pub mod Walk
 pub mod Words
 pub mod Replays
+pub mod Stages
+pub mod Tally
+pub mod Undone

@@ -2,3 +2,4 @@ pub mod Room
 pub mod Cells
 pub mod Chain
 pub mod Packets
+pub mod Stages

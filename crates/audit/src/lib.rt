@@ -2,3 +2,4 @@
 pub mod chain;
 pub mod fields;
 pub mod packets;
+pub mod pointers;

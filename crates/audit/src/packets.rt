@@ -180,7 +180,7 @@ fn packet_sound(table: &[u16], p: Packet) -> bool
 }
 
 // The packet that j older ones wait before.
-fn packet_on(queue: Queue, j: u16) -> Packet
+pub fn packet_on(queue: Queue, j: u16) -> Packet
     requires { ⌜ (queue .place < slots) × (j < slots) ⌝ }
     ensures { λ r. ⌜ packetOf r ≡ packetOn queue j ⌝ }
 {
