@@ -9,6 +9,7 @@ pub mod Replay
 pub mod Undo
 pub mod Moves
 pub mod Sweep
+pub mod Commute
 pub mod Select
 pub mod Fresh
 pub mod Asked

@@ -1,0 +1,96 @@
+-- Laws of counters of 16 bits: what the code writes, what stands, and that changes that fit are made whole.
+use mathlib.Core.Path.{_≡_, refl, sym, ap, _∙_}
+use mathlib.Core.Logic.{⊎-elim}
+use mathlib.Core.Bool.{Bool, true, false, cond}
+use mathlib.Core.List.{List, [], _∷_}
+use Prim.Native.Nat.{ℕ, zero, suc, pred, _+_, _-_, _<_, _≤_}
+use native.Mathlib.Omega.{arith}
+use lib.Dec.{leb}
+use lib.ListN.{length}
+use borrow.Author.Tests.{le-leb, lt-leb}
+use Rattle.machine.specs.Counters.{Raised}
+use Rattle.machine.specs.Words.{isCell}
+use Rattle.machine.specs.Table.{capacity, lastFree, wordAt, putWord}
+use Rattle.machine.specs.Packets.{Counter, Direction, plus, minus, Change, Kind, kindOf, changesOf}
+use Rattle.machine.specs.Step.{counterWord, shifted, moveCount, applyChanges}
+use Rattle.machine.proofs.Range.{tested}
+use Rattle.machine.proofs.Table.{put-itself}
+use Rattle.machine.proofs.Moves.{capacity-move, lastFree-move}
+use Rattle.collector.specs.Fitting.{tooLarge, moveFitting, applyFitting, ChangesFit, Moves}
+
+either : {A : Type 0} (b : Bool) (x : A) → cond b x x ≡ x
+either true x = refl
+either false x = refl
+
+-- what a move keeps, a fitting one keeps
+fitting-keeps : (P : List ℕ → Type 0) (t : List ℕ) (k : Counter) (w : ℕ) (d : Direction) (n : ℕ) → P t → P (moveCount t k w d n) → P (moveFitting t k w d n)
+unfolding moveFitting
+fitting-keeps P t k w d n h g = go (tooLarge d (wordAt t (pred w) (counterWord k)) n)
+  where
+    go : (b : Bool) → P (cond b t (moveCount t k w d n))
+    go true = h
+    go false = g
+
+moves : (t : List ℕ) (k : Counter) (w : ℕ) (d : Direction) (n : ℕ) (t′ : List ℕ) → t′ ≡ moveFitting t k w d n → Moves t k w d n t′
+moves t k w d n t′ e = record {
+  moved = e;
+  sameCapacity = ap capacity e ∙ fitting-keeps (λ u. capacity u ≡ capacity t) t k w d n refl (capacity-move t k w d n);
+  sameLast = ap lastFree e ∙ fitting-keeps (λ u. lastFree u ≡ lastFree t) t k w d n refl (lastFree-move t k w d n);
+}
+
+-- a word that is no cell has no counter
+pub moves-none : (t : List ℕ) (k : Counter) (w : ℕ) (d : Direction) (n : ℕ) → isCell (capacity t) w ≡ false → Moves t k w d n t
+moves-none t k w d n h = moves t k w d n t same
+  where
+    same : t ≡ moveFitting t k w d n
+    same = unfold moveFitting moveCount in rw h (sym (either (tooLarge d (wordAt t (pred w) (counterWord k)) n) t))
+
+-- the counter of a cell, read and written at place i
+pub moves-lowered : (t : List ℕ) (k : Counter) (w n i v : ℕ) → isCell (capacity t) w ≡ true → i ≡ w - 1 → v ≡ wordAt t i (counterWord k) - n
+    → (t′ : List ℕ) → t′ ≡ putWord t i (counterWord k) v → Moves t k w minus n t′
+moves-lowered t k w n i v h e f t′ g = moves t k w minus n t′ (g ∙ same)
+  where
+    place : i ≡ pred w
+    place = omega arith
+
+    same : putWord t i (counterWord k) v ≡ moveFitting t k w minus n
+    same = unfold moveFitting moveCount in rw (h, f, place)
+
+pub moves-raised : (t : List ℕ) (k : Counter) (w n i v : ℕ) → isCell (capacity t) w ≡ true → i ≡ w - 1 → Raised (wordAt t i (counterWord k)) n v
+    → (t′ : List ℕ) → t′ ≡ putWord t i (counterWord k) v → Moves t k w plus n t′
+moves-raised t k w n i v h e f t′ g = moves t k w plus n t′ (g ∙ ap (λ (j : ℕ). putWord t j (counterWord k) v) place ∙ ⊎-elim large small (tested (leb 65536 (wordAt t (pred w) (counterWord k) + n))))
+  where
+    place : i ≡ pred w
+    place = omega arith
+
+    r : Raised (wordAt t (pred w) (counterWord k)) n v
+    r = rw place at f
+
+    large : leb 65536 (wordAt t (pred w) (counterWord k) + n) ≡ true → putWord t (pred w) (counterWord k) v ≡ moveFitting t k w plus n
+    large b = unfold moveFitting in rw (b, r .stays (borrow.Author.Tests.leb-true 65536 _ b)) (put-itself t (pred w) (counterWord k))
+
+    small : leb 65536 (wordAt t (pred w) (counterWord k) + n) ≡ false → putWord t (pred w) (counterWord k) v ≡ moveFitting t k w plus n
+    small b = unfold moveFitting moveCount in rw (b, h, r .fits (borrow.Author.Tests.leb-false 65536 _ b))
+
+-- a change that fits is made whole
+move-fits : (t : List ℕ) (k : Counter) (w : ℕ) (d : Direction) (n : ℕ) → (isCell (capacity t) w ≡ true → shifted d (wordAt t (pred w) (counterWord k)) n < 65536)
+    → moveFitting t k w d n ≡ moveCount t k w d n
+move-fits t k w minus n f = unfold moveFitting in refl
+move-fits t k w plus n f = ⊎-elim cell none (tested (isCell (capacity t) w))
+  where
+    cell : isCell (capacity t) w ≡ true → moveFitting t k w plus n ≡ moveCount t k w plus n
+    cell h = unfold moveFitting in rw (lt-leb 65536 (wordAt t (pred w) (counterWord k) + n) (f h))
+
+    none : isCell (capacity t) w ≡ false → moveFitting t k w plus n ≡ moveCount t k w plus n
+    none h = unfold moveFitting moveCount in rw h (either (leb 65536 (wordAt t (pred w) (counterWord k) + n)) t)
+
+pub apply-fits : (t : List ℕ) (hs : List Change) → ChangesFit t hs → applyFitting t hs ≡ applyChanges t hs
+unfolding applyFitting applyChanges
+apply-fits t [] f = refl
+apply-fits t (h ∷ hs) f =
+    ap (λ (u : List ℕ). applyFitting u hs) (move-fits t (h .counter) (h .word) (h .direction) (h .amount) (f .0))
+    ∙ apply-fits (moveCount t (h .counter) (h .word) (h .direction) (h .amount)) hs (f .1)
+
+-- a packet's changes, by its kind
+pub applied : (t t′ : List ℕ) (kind a b : ℕ) (k : Kind) → kindOf kind ≡ k → t′ ≡ applyFitting t (changesOf k a b) → t′ ≡ applyFitting t (changesOf (kindOf kind) a b)
+applied t t′ kind a b k e h = rw e h

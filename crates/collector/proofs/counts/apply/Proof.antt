@@ -1,0 +1,116 @@
+use mathlib.Core.Logic.{inl, inr, ⊎-elim}
+use mathlib.Core.Path.{refl, ap}
+use borrow.Author.Needs.{needs}
+use Rattle.collector.specs.Fitting.{applyFitting}
+use Rattle.queue.proofs.Totals.{kind-unknown}
+use Rattle.machine.specs.Packets.{reads, makes, replaces, raises, lowers, unknown, kindOf, changesOf}
+use Rattle.machine.specs.Table.{left, right}
+use Rattle.collector.proofs.Fitting.{applied}
+use Rattle.collector.proofs.counts.apply.Statement.{statement}
+use Rattle.collector.proofs.counts.apply.Tie as tie
+
+lower-root-requires : tie.Need-lower-root-requires
+lower-root-requires c κs = search needs
+
+raise-root-requires : tie.Need-raise-root-requires
+raise-root-requires c κs = search needs
+
+lower-root-requires-2 : tie.Need-lower-root-requires-2
+lower-root-requires-2 c κs = search needs
+
+lower-root-requires-3 : tie.Need-lower-root-requires-3
+lower-root-requires-3 c κs = search needs
+
+raise-cell-requires : tie.Need-raise-cell-requires
+raise-cell-requires c κs = search needs
+
+raise-cell-requires-2 : tie.Need-raise-cell-requires-2
+raise-cell-requires-2 c κs = search needs
+
+lower-root-requires-4 : tie.Need-lower-root-requires-4
+lower-root-requires-4 c κs = search needs
+
+raise-cell-requires-3 : tie.Need-raise-cell-requires-3
+raise-cell-requires-3 c κs = search needs
+
+lower-cell-requires : tie.Need-lower-cell-requires
+lower-cell-requires c κs = search needs
+
+raise-root-requires-2 : tie.Need-raise-root-requires-2
+raise-root-requires-2 c κs = search needs
+
+lower-root-requires-5 : tie.Need-lower-root-requires-5
+lower-root-requires-5 c κs = search needs
+
+same-length : tie.Need-same-length
+same-length c = search needs
+
+returns : tie.Need-returns
+unfolding kindOf changesOf applyFitting
+returns c = let i = c .before .before .before .before .before .before .before .before .before .before .args in applied (i .table .now) _ (i .kind) (i .a) (i .b) reads (ap kindOf (c .before .before .before .before .before .before .before .before .match .keys1)) (cc)
+
+same-length-2 : tie.Need-same-length-2
+same-length-2 c = search needs
+
+returns-2 : tie.Need-returns-2
+unfolding kindOf changesOf applyFitting
+returns-2 c = let i = c .before .before .before .before .before .before .before .before .before .before .before .before .before .before .before .before .before .before .args in applied (i .table .now) _ (i .kind) (i .a) (i .b) makes (ap kindOf (c .before .before .before .before .before .before .before .before .before .before .before .before .before .before .before .before .match .keys2)) (cc)
+
+same-length-3 : tie.Need-same-length-3
+same-length-3 c = search needs
+
+returns-3 : tie.Need-returns-3
+unfolding kindOf changesOf applyFitting
+returns-3 c =
+    let i = c .before .before .before .before .before .before .before .before .before .before .before .before .before .before .args in
+    ⊎-elim (λ e. applied (i .table .now) _ (i .kind) (i .a) (i .b) (replaces left) (ap kindOf e) (cc)) (λ e. applied (i .table .now) _ (i .kind) (i .a) (i .b) (replaces right) (ap kindOf e) (cc))
+    (c .before .before .before .before .before .before .before .before .before .before .before .before .match .keys3)
+
+same-length-4 : tie.Need-same-length-4
+same-length-4 c = search needs
+
+returns-4 : tie.Need-returns-4
+unfolding kindOf changesOf applyFitting
+returns-4 c = let i = c .before .before .before .before .before .before .args in applied (i .table .now) _ (i .kind) (i .a) (i .b) raises (ap kindOf (c .before .before .before .before .match .keys4)) (cc)
+
+same-length-5 : tie.Need-same-length-5
+same-length-5 c = search needs
+
+returns-5 : tie.Need-returns-5
+unfolding kindOf changesOf applyFitting
+returns-5 c = let i = c .before .before .before .before .before .before .args in applied (i .table .now) _ (i .kind) (i .a) (i .b) lowers (ap kindOf (c .before .before .before .before .match .keys5)) (cc)
+
+returns-6 : tie.Need-returns-6
+unfolding changesOf applyFitting
+returns-6 c =
+    let i = c .before .before .args in
+    let r = c .match .rest in
+    applied (i .table .now) _ (i .kind) (i .a) (i .b) unknown
+    (kind-unknown (i .kind) (r .0 .0 .0 .0 .1) (r .0 .0 .0 .1) (λ e. r .0 .0 .1 (inl e)) (r .0 .1) (r .1) (λ e. r .0 .0 .1 (inr e))) refl
+
+pub apply-spec : {M : Type 1} → statement M
+apply-spec =
+    tie.close
+    (tie.spec
+    lower-root-requires
+    raise-root-requires
+    lower-root-requires-2
+    lower-root-requires-3
+    raise-cell-requires
+    raise-cell-requires-2
+    lower-root-requires-4
+    raise-cell-requires-3
+    lower-cell-requires
+    raise-root-requires-2
+    lower-root-requires-5
+    same-length
+    returns
+    same-length-2
+    returns-2
+    same-length-3
+    returns-3
+    same-length-4
+    returns-4
+    same-length-5
+    returns-5
+    returns-6)

@@ -1,0 +1,30 @@
+use borrow.Author.Needs.{needs}
+use Rattle.collector.specs.Names.{threeNames}
+use Rattle.collector.proofs.Marked.{three-pushed}
+use Rattle.collector.proofs.marks.push_names.Statement.{statement}
+use Rattle.collector.proofs.marks.push_names.Tie as tie
+
+names-of-requires : tie.Need-names-of-requires
+names-of-requires c κs = search needs
+
+push-requires : tie.Need-push-requires
+push-requires c κs = search needs
+
+push-requires-2 : tie.Need-push-requires-2
+push-requires-2 c κs = search needs
+
+push-requires-3 : tie.Need-push-requires-3
+push-requires-3 c κs = search needs
+
+same-length : tie.Need-same-length
+same-length c = search needs
+
+returns : tie.Need-returns
+unfolding threeNames
+returns c =
+    three-pushed _ _ _ _ _ (c .before .before .before .before .before .before .before .before .before .before .before .before .names-of .ensures) _ _ _ _ (c .before .before .before .before .before .before .before .before .before .before .push .ensures) (c .before .before .before .before .before .before .push2 .ensures) (c .before .before .push3 .ensures)
+
+pub push-names-spec : {M : Type 1} → statement M
+push-names-spec =
+    tie.close
+    (tie.spec names-of-requires push-requires push-requires-2 push-requires-3 same-length returns)

@@ -1,0 +1,22 @@
+use borrow.Author.Needs.{needs}
+use Rattle.collector.proofs.Names.{or-first, or-second, or-third}
+use Rattle.collector.proofs.roots.or_named.Statement.{statement}
+use Rattle.collector.proofs.roots.or_named.Tie as tie
+
+returns : tie.Need-returns
+returns c = search needs
+
+names-of-requires : tie.Need-names-of-requires
+names-of-requires c κs = search needs
+
+returns-2 : tie.Need-returns-2
+returns-2 c = or-first _ _ _ _ _ (c .before .before .names-of .ensures) _ (c .before .before .before .if1 .left) (c .if2 .taken)
+
+returns-3 : tie.Need-returns-3
+returns-3 c = or-second _ _ _ _ _ (c .before .before .before .before .names-of .ensures) _ (c .before .before .before .before .before .if1 .left) (c .before .before .if2 .left) (c .if3 .taken)
+
+returns-4 : tie.Need-returns-4
+returns-4 c = or-third _ _ _ _ _ (c .before .before .before .before .before .names-of .ensures) _ (c .before .before .before .before .before .before .if1 .left) (c .before .before .before .if2 .left) (c .before .if3 .left)
+
+pub or-named-spec : {M : Type 1} → statement M
+or-named-spec = tie.close (tie.spec returns names-of-requires returns-2 returns-3 returns-4)

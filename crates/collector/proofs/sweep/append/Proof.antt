@@ -1,0 +1,76 @@
+use mathlib.Core.Path.{sym, _∙_}
+use borrow.Author.Needs.{needs}
+use Rattle.collector.proofs.Swept.{append-none, append-some}
+use Rattle.collector.proofs.sweep.append.Statement.{statement}
+use Rattle.collector.proofs.sweep.append.Tie as tie
+
+first-free-requires : tie.Need-first-free-requires
+first-free-requires c κs = search needs
+
+last-free-requires : tie.Need-last-free-requires
+last-free-requires c κs = search needs
+
+set-cell-requires : tie.Need-set-cell-requires
+set-cell-requires c κs = search needs
+
+add-set-ends : tie.Need-add-set-ends
+add-set-ends c = search needs
+
+add-set-ends-2 : tie.Need-add-set-ends-2
+add-set-ends-2 c = search needs
+
+set-ends-requires : tie.Need-set-ends-requires
+set-ends-requires c κs = search needs
+
+same-length : tie.Need-same-length
+same-length c = search needs
+
+returns : tie.Need-returns
+returns c =
+    let i = c .before .before .before .before .before .before .before .before .before .before .before .before .before .before .args in cc (append-none (i .table .now) (i .place) (sym (c .before .before .before .before .before .before .before .before .before .last-free .ensures) ∙ c .before .before .before .before .if1 .taken))
+
+sub-set-field : tie.Need-sub-set-field
+sub-set-field c = search needs
+
+cast-set-field : tie.Need-cast-set-field
+cast-set-field c = search needs
+
+add-set-field : tie.Need-add-set-field
+add-set-field c = search needs
+
+set-field-requires : tie.Need-set-field-requires
+set-field-requires c κs = search needs
+
+add-set-ends-3 : tie.Need-add-set-ends-3
+add-set-ends-3 c = search needs
+
+set-ends-requires-2 : tie.Need-set-ends-requires-2
+set-ends-requires-2 c κs = search needs
+
+same-length-2 : tie.Need-same-length-2
+same-length-2 c = search needs
+
+returns-2 : tie.Need-returns-2
+returns-2 c =
+    let i = c .before .before .before .before .before .before .before .before .before .before .before .before .before .before .before .before .before .before .args in cc (append-some (i .table .now) (i .place) (λ e. c .before .before .before .before .before .before .before .before .if1 .left (c .before .before .before .before .before .before .before .before .before .before .before .before .before .last-free .ensures ∙ e)))
+
+pub append-spec : {M : Type 1} → statement M
+append-spec =
+    tie.close
+    (tie.spec
+    first-free-requires
+    last-free-requires
+    set-cell-requires
+    add-set-ends
+    add-set-ends-2
+    set-ends-requires
+    same-length
+    returns
+    sub-set-field
+    cast-set-field
+    add-set-field
+    set-field-requires
+    add-set-ends-3
+    set-ends-requires-2
+    same-length-2
+    returns-2)

@@ -1,0 +1,80 @@
+-- The step's contract, for any table, queue and scratch.
+use mathlib.Core.Path.{_≡_}
+use mathlib.Core.Bool.{Bool, true, cond}
+use mathlib.Core.List.{List}
+use Prim.Native.Nat.{ℕ, suc, _≤_, _<_}
+use lib.ListN.{length}
+use Rattle.machine.specs.declared.Queue.{Queue}
+use Rattle.machine.specs.declared.StepAnswer
+use Rattle.machine.specs.declared.StepAnswer.{StepAnswer}
+use Rattle.machine.specs.Words.{mostCells}
+use Rattle.machine.specs.Table.{capacity, lastFree, tableLength}
+use Rattle.machine.specs.Queue.{Packet, slots, slot, waiting, taken}
+use Rattle.machine.specs.Packets.{changes}
+use Rattle.machine.specs.Calls.{step, refused, idle, store}
+use Rattle.machine.specs.Step.{unreached, swept, cleared, outcome, stepped}
+use Rattle.machine.specs.Questions.{firstNo, early}
+use Rattle.machine.specs.Audit.{allReached}
+use Rattle.machine.specs.Answers.{stepReply}
+use Rattle.machine.specs.Promise.{Untouched}
+use Rattle.collector.specs.declared.Stepped.{Stepped}
+use Rattle.collector.specs.Fitting.{applyFitting, ChangesFit}
+use Rattle.collector.specs.Names.{stayRoots}
+use Rattle.collector.specs.Marking.{Markable}
+
+-- the oldest packet
+abbrev pub oldest : Queue → Packet
+oldest q = slot q (q .place)
+
+-- What a sound store gives a step: each change of the oldest packet fits its counter, and every cell in use is reached before.
+pub record Premises (t : List ℕ) (q : Queue) : Type 0 where
+  pub fit : ChangesFit t (changes (oldest q))
+  pub live : allReached t (waiting q) ≡ true
+
+-- the table t with the packet p's changes made and ps waiting: nothing is freed where the cells that p names are still roots
+unfoldable pub collected : List ℕ → List Packet → Packet → List ℕ
+collected t ps p = cond (stayRoots t ps p) t (swept t (unreached t ps))
+
+unfoldable pub freedNumber : List ℕ → List Packet → Packet → ℕ
+freedNumber t ps p = cond (stayRoots t ps p) 0 (length (unreached t ps))
+
+-- what mark and sweep give on any store past questions 1 and 2
+pub record Collects (t : List ℕ) (ps : List Packet) (s t′ s′ : List ℕ) (n : ℕ) : Type 0 where
+  pub table : t′ ≡ swept t (unreached t ps)
+  pub number : n ≡ length (unreached t ps)
+  pub scratch : s′ ≡ cleared (capacity t) s
+
+pub record Collectable (t : List ℕ) (q : Queue) (s : List ℕ) (c : ℕ) : Type 0 where
+  pub markable : Markable t q s c
+  pub last : lastFree t ≤ capacity t
+
+-- questions 1 and 2 as plain facts, and a packet waits
+pub record Waits (t : List ℕ) (q : Queue) (s : List ℕ) : Type 0 where
+  pub room : tableLength (capacity t) ≤ length t
+  pub most : capacity t ≤ mostCells
+  pub last : lastFree t ≤ capacity t
+  pub place : q .place < slots
+  pub count : q .count ≤ slots
+  pub enough : capacity t ≤ length s
+  pub some : 0 < q .count
+
+-- what the code then computes on any store
+pub record Applies (t : List ℕ) (q : Queue) (s : List ℕ) (r : Stepped) (t′ s′ : List ℕ) : Type 0 where
+  pub table : t′ ≡ collected (applyFitting t (changes (oldest q))) (waiting (taken q)) (oldest q)
+  pub answer : r .answer ≡ StepAnswer.Applied (oldest q .kind) (freedNumber (applyFitting t (changes (oldest q))) (waiting (taken q)) (oldest q))
+  pub queue : r .queue ≡ taken q
+  pub scratch : s′ ≡ cleared (capacity t) s
+
+pub record Steps (t : List ℕ) (q : Queue) (s : List ℕ) (r : Stepped) (t′ s′ : List ℕ) : Type 0 where
+  -- questions 1 and 2, on any store: the first "no" gives its number, and nothing lent changes
+  pub asked : ((n : ℕ) → firstNo (early (store t q s) step) ≡ suc n → (stepReply (r .answer) ≡ refused (suc n)) × (store t′ (r .queue) s′ ≡ store t q s))
+  -- past them a step never refuses
+  pub answered : ((n : ℕ) → firstNo (early (store t q s) step) ≡ 0 → stepReply (r .answer) ≡ refused n → ⊥)
+  -- idle where no packet waits, and nothing changes
+  pub idles : (firstNo (early (store t q s) step) ≡ 0 → q .count ≡ 0 → (stepReply (r .answer) ≡ idle) × (store t′ (r .queue) s′ ≡ store t q s))
+  -- else the oldest packet leaves the queue, and the first C words of the scratch are 0
+  pub takes : (firstNo (early (store t q s) step) ≡ 0 → 0 < q .count → (r .queue ≡ taken q) × (s′ ≡ cleared (capacity t) s))
+  -- by the machine's definition
+  pub exact : (firstNo (early (store t q s) step) ≡ 0 → Premises t q → outcome (stepReply (r .answer)) (store t′ (r .queue) s′) ≡ stepped (store t q s))
+  -- on any store
+  pub bounded : Untouched (store t q s) (store t′ (r .queue) s′)

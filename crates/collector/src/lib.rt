@@ -1,0 +1,80 @@
+// The collector's step: the oldest packet is applied, and the cells in use that no root reaches any more are freed.
+mod counts;
+mod marks;
+mod roots;
+mod sweep;
+
+use machine::Queue;
+use machine::Refusal;
+use machine::StepAnswer;
+ghost use Rattle.machine.specs.Queue.{waiting};
+ghost use Rattle.collector.specs.Steps.{Collectable, Collects, Waits, Applies, Steps};
+
+// A step's answer, and the queue afterwards.
+pub struct Stepped {
+    pub answer: StepAnswer,
+    pub queue: Queue,
+}
+
+// Mark and sweep: how many cells were freed.
+fn collect(table: &mut [u16], queue: Queue, scratch: &mut [u16], c: u16) -> u16
+    requires { ⌜ Collectable (now table) queue (now scratch) c ⌝ }
+    ensures { λ r. ⌜ Collects (now (table .entry)) (waiting queue) (now (scratch .entry)) (now (table .exit)) (now (scratch .exit)) r ⌝ }
+{
+    marks::mark(table, queue, scratch, c);
+    let freed = sweep::sweep(table, scratch);
+    marks::clear(scratch, c);
+    freed
+}
+
+// A packet waits: the oldest is applied and leaves the queue. Where each cell that it names is still a root, nothing can be freed on a sound
+// store, and mark and sweep are skipped.
+fn apply_oldest(table: &mut [u16], queue: Queue, scratch: &mut [u16]) -> Stepped
+    requires { ⌜ Waits (now table) queue (now scratch) ⌝ }
+    ensures { λ r. ⌜ Applies (now (table .entry)) queue (now (scratch .entry)) r (now (table .exit)) (now (scratch .exit)) ⌝ }
+{
+    let c = cells::capacity_of(table);
+    let place = queue.place;
+    let p = queue::packet_at(queue, place as usize);
+    let rest = queue::take(queue);
+    counts::apply(table, p.kind, p.a, p.b);
+    let mut freed: u16 = 0;
+    if roots::stay_roots(table, rest, p.kind, p.a, p.b, p.c) {
+        marks::clear(scratch, c);
+    } else {
+        freed = collect(table, rest, scratch, c);
+    }
+    Stepped {
+        answer: StepAnswer::Applied {
+            kind: p.kind,
+            freed,
+        },
+        queue: rest,
+    }
+}
+
+// One step, for any table, queue and scratch.
+pub fn step(table: &mut [u16], queue: Queue, scratch: &mut [u16]) -> Stepped
+    ensures { λ r. ⌜ Steps (now (table .entry)) queue (now (scratch .entry)) r (now (table .exit)) (now (scratch .exit)) ⌝ }
+{
+    if questions::in_range(table, queue) {
+        if questions::scratch_enough(table, scratch) {
+            let count = queue.count;
+            if count == 0 {
+                return Stepped {
+                    answer: StepAnswer::Idle,
+                    queue,
+                };
+            }
+            return apply_oldest(table, queue, scratch);
+        }
+        return Stepped {
+            answer: StepAnswer::Refused(Refusal::ScratchTooShort),
+            queue,
+        };
+    }
+    Stepped {
+        answer: StepAnswer::Refused(Refusal::StoreOutOfRange),
+        queue,
+    }
+}

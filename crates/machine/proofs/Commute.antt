@@ -1,0 +1,114 @@
+-- Writes to different words commute, and lowering a cell count commutes with joining a cell to the free chain.
+use mathlib.Core.Path.{_≡_, refl, sym, ap, _∙_}
+use mathlib.Core.Logic.{⊎-elim}
+use mathlib.Core.Bool.{Bool, true, false, cond}
+use mathlib.Core.List.{List}
+use Prim.Native.Nat.{ℕ, suc, pred, _+_, _-_, _*_, _≤_, _<_}
+use native.Mathlib.Omega.{arith}
+use lib.Dec.{eqb}
+use lib.ListN.{length, set}
+use lib.Seq.{set-comm, set-set}
+use borrow.Author.Tests.{eqb-true, eqb-false}
+use Rattle.machine.specs.Words.{isCell}
+use Rattle.machine.specs.Table.{stride, header, left, right, rootCount, cellCount, state, capacity, firstFree, lastFree, tableLength, position, wordAt, putWord, putEnds, putCell}
+use Rattle.machine.specs.Packets.{cell, minus}
+use Rattle.machine.specs.Step.{moveCount, join}
+use Rattle.machine.proofs.Range.{tested}
+use Rattle.machine.proofs.Words.{cell-place}
+use Rattle.machine.proofs.Table.{put-itself, firstFree-putWord, lastFree-putWord}
+use Rattle.machine.proofs.Sweep.{joins}
+
+pub put-comm : (t : List ℕ) (i k v j m w : ℕ) → k < stride → m < stride → (i ≡ j → k ≡ m → ⊥) → putWord (putWord t i k v) j m w ≡ putWord (putWord t j m w) i k v
+unfolding putWord position
+put-comm t i k v j m w hk hm d = set-comm t (header + stride * i + k) (header + stride * j + m) v w (λ e. d (omega arith) (omega arith))
+
+put-again : (t : List ℕ) (i k v w : ℕ) → putWord (putWord t i k v) i k w ≡ putWord t i k w
+unfolding putWord
+put-again t i k v w = set-set t (position i k) v w
+
+ends-put : (t : List ℕ) (i k v f l : ℕ) → putEnds (putWord t i k v) f l ≡ putWord (putEnds t f l) i k v
+unfolding putEnds putWord position
+ends-put t i k v f l =
+    ap (λ (u : List ℕ). set u 2 l) (set-comm t (header + stride * i + k) 1 v f (omega arith))
+    ∙ set-comm (set t 1 f) (header + stride * i + k) 2 v l (omega arith)
+
+module _ (t : List ℕ) (i p v : ℕ) where
+  abbrev put : List ℕ → List ℕ
+  put u = putWord u p cellCount v
+
+  abbrev t₁ : List ℕ
+  t₁ = putWord t i left 0
+
+  abbrev t₂ : List ℕ
+  t₂ = putWord t₁ i right 0
+
+  abbrev t₃ : List ℕ
+  t₃ = putWord t₂ i rootCount 0
+
+  abbrev t₄ : List ℕ
+  t₄ = putWord t₃ i cellCount 0
+
+  -- a cell count written and the cell at place i wiped
+  wipe-other : (p ≡ i → ⊥) → putCell (put t) i 0 0 0 0 0 ≡ put (putCell t i 0 0 0 0 0)
+  unfolding putCell
+  wipe-other d =
+      cc (
+        put-comm t p cellCount v i left 0 (omega arith) (omega arith) (λ e _. d e),
+        put-comm t₁ p cellCount v i right 0 (omega arith) (omega arith) (λ e _. d e),
+        put-comm t₂ p cellCount v i rootCount 0 (omega arith) (omega arith) (λ e _. d e),
+        put-comm t₃ p cellCount v i cellCount 0 (omega arith) (omega arith) (λ e _. d e),
+        put-comm t₄ p cellCount v i state 0 (omega arith) (omega arith) (λ e _. d e),
+      )
+
+  wipe-same : p ≡ i → putCell (put t) i 0 0 0 0 0 ≡ putCell t i 0 0 0 0 0
+  unfolding putCell
+  wipe-same e =
+      cc (
+        put-comm t i cellCount v i left 0 (omega arith) (omega arith) (λ _ x. omega arith),
+        put-comm t₁ i cellCount v i right 0 (omega arith) (omega arith) (λ _ x. omega arith),
+        put-comm t₂ i cellCount v i rootCount 0 (omega arith) (omega arith) (λ _ x. omega arith),
+        put-again t₃ i cellCount v 0,
+      )
+
+  abbrev wiped : List ℕ
+  wiped = putCell t i 0 0 0 0 0
+
+  join-other : (p ≡ i → ⊥) → join (put t) i ≡ put (join t i)
+  unfolding join
+  join-other d =
+      rw (lastFree-putWord t p cellCount v, firstFree-putWord t p cellCount v, wipe-other d) (go (eqb (lastFree t) 0))
+    where
+      linked : putWord (put wiped) (pred (lastFree t)) left (suc i) ≡ put (putWord wiped (pred (lastFree t)) left (suc i))
+      linked = put-comm wiped p cellCount v (pred (lastFree t)) left (suc i) (omega arith) (omega arith) (λ _ x. omega arith)
+
+      go : (b : Bool) → cond b (putEnds (put wiped) (suc i) (suc i)) (putEnds (putWord (put wiped) (pred (lastFree t)) left (suc i)) (firstFree t) (suc i))
+          ≡ put (cond b (putEnds wiped (suc i) (suc i)) (putEnds (putWord wiped (pred (lastFree t)) left (suc i)) (firstFree t) (suc i)))
+      go true = ends-put wiped p cellCount v (suc i) (suc i)
+      go false =
+          ap (λ (u : List ℕ). putEnds u (firstFree t) (suc i)) linked
+          ∙ ends-put (putWord wiped (pred (lastFree t)) left (suc i)) p cellCount v (firstFree t) (suc i)
+
+  join-same : p ≡ i → join (put t) i ≡ join t i
+  unfolding join
+  join-same e = rw (lastFree-putWord t p cellCount v, firstFree-putWord t p cellCount v, wipe-same e)
+
+module _ (t : List ℕ) (i w n : ℕ) (f : tableLength (capacity t) ≤ length t) (l : i < capacity t) (b : lastFree t ≤ capacity t) where
+  -- lowering the count of a cell that is wiped, or of another
+  pub join-move : moveCount (join t i) cell w minus n ≡ join (moveCount t cell w minus n) i
+  unfolding moveCount
+  join-move = rw (joins t i f l b .sameCapacity) (⊎-elim (λ (e : isCell (capacity t) w ≡ true). rw e (at-cell (cell-place (capacity t) w e))) (λ (e : isCell (capacity t) w ≡ false). rw e) (tested (isCell (capacity t) w)))
+    where
+      at-cell : pred w < capacity t → putWord (join t i) (pred w) cellCount (wordAt (join t i) (pred w) cellCount - n) ≡ join (putWord t (pred w) cellCount (wordAt t (pred w) cellCount - n)) i
+      at-cell m = ⊎-elim (λ e. here (eqb-true (pred w) i e)) (λ e. elsewhere (eqb-false (pred w) i e)) (tested (eqb (pred w) i))
+        where
+          here : pred w ≡ i → putWord (join t i) (pred w) cellCount (wordAt (join t i) (pred w) cellCount - n) ≡ join (putWord t (pred w) cellCount (wordAt t (pred w) cellCount - n)) i
+          here e =
+              let zero : wordAt (join t i) (pred w) cellCount ≡ 0 = rw e (joins t i f l b .wiped cellCount (omega arith) (λ x. absurd (omega arith))) in
+              let same : wordAt (join t i) (pred w) cellCount - n ≡ wordAt (join t i) (pred w) cellCount = omega arith in
+              ap (putWord (join t i) (pred w) cellCount) same ∙ put-itself (join t i) (pred w) cellCount
+              ∙ sym (join-same t i (pred w) (wordAt t (pred w) cellCount - n) e)
+
+          elsewhere : (pred w ≡ i → ⊥) → putWord (join t i) (pred w) cellCount (wordAt (join t i) (pred w) cellCount - n) ≡ join (putWord t (pred w) cellCount (wordAt t (pred w) cellCount - n)) i
+          elsewhere d =
+              ap (λ (x : ℕ). putWord (join t i) (pred w) cellCount (x - n)) (joins t i f l b .stands (pred w) cellCount (omega arith) d (λ x. absurd (omega arith)))
+              ∙ sym (join-other t i (pred w) (wordAt t (pred w) cellCount - n) d)
