@@ -7,3 +7,4 @@ pub mod Replays
 pub mod Stages
 pub mod Tally
 pub mod Undone
+pub mod Rules

@@ -3,3 +3,5 @@ pub mod Cells
 pub mod Chain
 pub mod Packets
 pub mod Stages
+pub mod Live
+pub mod Contract

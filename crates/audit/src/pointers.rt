@@ -2,6 +2,7 @@
 // more than 4,095 pointers meet one cell; at the end the cell counts are the pointers found. Nothing is written to the table: a stage's field is
 // found through the packets, and its pointers to each cell are counted in the scratch.
 use crate::packets::packet_on;
+use collector::marks::clear;
 use machine::CellCount;
 use machine::Queue;
 use queue::Packet;
@@ -14,24 +15,10 @@ ghost use Rattle.machine.specs.Range.{every};
 ghost use Rattle.machine.specs.Table.{right, capacity};
 ghost use Rattle.machine.specs.Queue.{slots, waiting};
 ghost use Rattle.machine.specs.Packets.{makes, replaces};
-ghost use Rattle.machine.specs.Step.{cleared};
 ghost use Rattle.machine.specs.Audit.{pointersSound};
 ghost use Rattle.queue.specs.Sums.{packetOf};
 ghost use Rattle.audit.specs.Room.{Room};
 ghost use Rattle.audit.specs.Stages.{newer, fieldBefore, stageField, CountUp, CountDown, CountCell, Counted, Below, UsedCell, Stageable, Undoing, Undoable, UndoesKind, UndoesPacket, Audits, countWithin, wordWithin, countMatches};
-
-// The first c words of the scratch made 0.
-pub fn clear(scratch: &mut [u16], c: u16)
-    requires { ⌜ c ≤ length (now scratch) ⌝ }
-    ensures { λ r. ⌜ now (scratch .exit) ≡ cleared c (now (scratch .entry)) ⌝ }
-{
-    let n = c as usize;
-    let mut i: usize = 0;
-    while i < n {
-        scratch[i] = 0;
-        i += 1;
-    }
-}
 
 // One pointer more to the word w, if it is a cell.
 fn raise(scratch: &mut [u16], c: u16, w: u16)
