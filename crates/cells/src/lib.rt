@@ -5,7 +5,7 @@ use machine::RootCount;
 ghost use mathlib.Core.Path.{_≡_};
 ghost use Prim.Native.Nat.{suc, _+_, _*_, _<_, _≤_};
 ghost use lib.ListN.{length, getD, set};
-ghost use Rattle.machine.specs.Table.{stride, right, rootCount, cellCount, capacity, firstFree, lastFree, tableLength, wordAt, putWord, putEnds, putCell, inUse};
+ghost use Rattle.machine.specs.Table.{stride, right, rootCount, cellCount, state, capacity, firstFree, lastFree, tableLength, wordAt, putWord, putEnds, putCell, inUse};
 
 // Words in front of the cells, and words of a cell.
 const HEADER: usize = 3;
@@ -99,6 +99,14 @@ pub fn in_use(table: &[u16], place: usize) -> bool
     ensures { λ r. ⌜ r ≡ inUse (now (table .entry)) place ⌝ }
 {
     0 < word(table, place, STATE)
+}
+
+// The state's word itself; `in_use` asks only whether it is above 0.
+pub fn state_word(table: &[u16], place: usize) -> u16
+    requires { ⌜ tableLength (suc place) ≤ length (now table) ⌝ }
+    ensures { λ r. ⌜ r ≡ wordAt (now (table .entry)) place state ⌝ }
+{
+    word(table, place, STATE)
 }
 
 // All five words of the cell at a place.

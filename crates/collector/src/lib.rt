@@ -1,6 +1,6 @@
 // The collector's step: the oldest packet is applied, and the cells in use that no root reaches any more are freed.
 mod counts;
-mod marks;
+pub mod marks;
 mod roots;
 mod sweep;
 

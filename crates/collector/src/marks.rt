@@ -14,7 +14,7 @@ ghost use Rattle.collector.specs.Names.{threeNames};
 ghost use Rattle.collector.specs.Marking.{stack, pushed, pushedAll, pushedIfRooted, pushedRooted, pushedNamed, visited, Pushes, Visitable, Followable, Follows, Markable, Marks};
 
 // The first c words of the scratch made 0.
-pub(crate) fn clear(scratch: &mut [u16], c: u16)
+pub fn clear(scratch: &mut [u16], c: u16)
     requires { ⌜ c ≤ length (now scratch) ⌝ }
     ensures { λ r. ⌜ now (scratch .exit) ≡ cleared c (now (scratch .entry)) ⌝ }
 {
@@ -126,7 +126,7 @@ fn follow(table: &[u16], scratch: &mut [u16], c: u16, first: u16)
 }
 
 // Every reached cell marked, from a scratch that holds anything.
-pub(crate) fn mark(table: &[u16], queue: Queue, scratch: &mut [u16], c: u16)
+pub fn mark(table: &[u16], queue: Queue, scratch: &mut [u16], c: u16)
     requires { ⌜ Markable (now table) queue (now scratch) c ⌝ }
     ensures { λ r. ⌜ Marks (now (table .entry)) (waiting queue) (now (scratch .entry)) (now (scratch .exit)) ⌝ }
 {

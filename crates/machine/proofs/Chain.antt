@@ -34,7 +34,7 @@ Places c [] = Unit {0}
 Places c (i ∷ is) = (i < c) × Places c is
 
 -- the places below c, each counted as often as it stands in a list, are the list's length
-total-occurrences : (c : ℕ) (is : List ℕ) → Places c is → total c (λ i. occurrences i is) ≡ length is
+pub total-occurrences : (c : ℕ) (is : List ℕ) → Places c is → total c (λ i. occurrences i is) ≡ length is
 unfolding occurrences
 total-occurrences c [] p = total-zero c
 total-occurrences c (i ∷ is) p =
@@ -96,7 +96,7 @@ unfolding everyOf
 numbers-cells c [] p = refl
 numbers-cells c (i ∷ is) p = and-both (place-cell c i (p .0)) (numbers-cells c is (p .1))
 
-laid-wiped : (t : List ℕ) (i : ℕ) → laidOut t i ≡ true → (k : ℕ) → right ≤ k → k ≤ state → wordAt t i k ≡ 0
+pub laid-wiped : (t : List ℕ) (i : ℕ) → laidOut t i ≡ true → (k : ℕ) → right ≤ k → k ≤ state → wordAt t i k ≡ 0
 unfolding laidOut
 laid-wiped t i h =
     let first = eqb (wordAt t i right) 0 in

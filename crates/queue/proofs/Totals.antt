@@ -46,7 +46,7 @@ unfolding kindOf
 kind-unknown k a b c d e f = simp (ne-eqb k 1 a, ne-eqb k 2 b, ne-eqb k 3 c, ne-eqb k 4 d, ne-eqb k 5 e, ne-eqb k 6 f)
 
 -- one packet more
-waiting-snoc : (k : Counter) (d : Direction) (x : ℕ) (ps : List Packet) (p : Packet) → waitingChange k d x (ps ++ (p ∷ [])) ≡ waitingChange k d x ps + movedBy k d x (changes p)
+pub waiting-snoc : (k : Counter) (d : Direction) (x : ℕ) (ps : List Packet) (p : Packet) → waitingChange k d x (ps ++ (p ∷ [])) ≡ waitingChange k d x ps + movedBy k d x (changes p)
 unfolding waitingChange
 waiting-snoc k d x [] p = omega arith
 waiting-snoc k d x (r ∷ ps) p = rw (waiting-snoc k d x ps p) (omega arith)

@@ -70,7 +70,7 @@ pub fn take(queue: Queue) -> Queue
 }
 
 // n where the word w is x, else 0.
-fn matched(w: u16, x: u16, n: u16) -> u32
+pub fn matched(w: u16, x: u16, n: u16) -> u32
     ensures { λ r. ⌜ (r ≡ matching w x n) × (r ≤ n) ⌝ }
 {
     if w == x {

@@ -1,0 +1,10 @@
+-- Laws that join what the code tests to the machine's rules.
+pub mod Tests
+pub mod Cells
+pub mod Walk
+pub mod Words
+pub mod Replays
+pub mod Stages
+pub mod Tally
+pub mod Undone
+pub mod Rules
