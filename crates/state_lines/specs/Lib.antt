@@ -1,0 +1,3 @@
+pub mod Places
+pub mod Checksum
+pub mod Replies
