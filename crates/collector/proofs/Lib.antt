@@ -10,4 +10,3 @@ pub mod Following
 pub mod Marked
 pub mod ShortWay
 pub mod Stepping
-pub mod Promised

@@ -3,10 +3,11 @@
 use calls::FreshReply;
 use calls::RowReply;
 use collector::Stepped;
+use machine::AuditAnswer;
 use machine::Queue;
 ghost use mathlib.Core.List.{[]};
-ghost use Rattle.machine.specs.Calls.{fresh, row, step, car, cdr, cons, setLeft, setRight, up, down, store};
-ghost use Rattle.machine.specs.Answers.{freshReply, rowReply, stepReply};
+ghost use Rattle.machine.specs.Calls.{fresh, row, step, audit, car, cdr, cons, setLeft, setRight, up, down, store};
+ghost use Rattle.machine.specs.Answers.{freshReply, rowReply, stepReply, auditAnswerReply};
 ghost use Rattle.machine.specs.Promise.{Promise};
 
 pub fn fresh(table: &mut [u16], queue: Queue, c: u16) -> FreshReply
@@ -61,4 +62,11 @@ pub fn step(table: &mut [u16], queue: Queue, scratch: &mut [u16]) -> Stepped
     ensures { λ r. ⌜ Promise (store (now (table .entry)) queue (now (scratch .entry))) step (stepReply (r .answer)) (store (now (table .exit)) (r .queue) (now (scratch .exit))) ⌝ }
 {
     collector::step(table, queue, scratch)
+}
+
+// The table is lent for reading and the queue for good: neither can change.
+pub fn audit(table: &[u16], queue: Queue, scratch: &mut [u16]) -> AuditAnswer
+    ensures { λ r. ⌜ Promise (store (now (table .entry)) queue (now (scratch .entry))) audit (auditAnswerReply r) (store (now (table .entry)) queue (now (scratch .exit))) ⌝ }
+{
+    audit::audit_store(table, queue, scratch)
 }
