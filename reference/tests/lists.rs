@@ -335,22 +335,11 @@ fn codes_are_digits_and_ranges() {
     }
 }
 
-/// A list for a gate's program and what is expected of it, as stored: with the
-/// program if there is one.
+/// A list for a gate's program and what is expected of it, as stored.
 fn gate(name: &str) -> (String, String) {
-    let (list, output) = match name {
-        "calls" => (
-            "../crates/call_cases/stdin".to_string(),
-            "../crates/call_cases/stdout".to_string(),
-        ),
-        _ => (
-            format!("cases/gate/{name}.list"),
-            format!("cases/gate/{name}.out"),
-        ),
-    };
-    let folder = Path::new(env!("CARGO_MANIFEST_DIR"));
-    let read = |path: String| fs::read_to_string(folder.join(path)).unwrap();
-    (read(list), read(output))
+    let folder = Path::new(env!("CARGO_MANIFEST_DIR")).join("cases/gate");
+    let read = |end: &str| fs::read_to_string(folder.join(format!("{name}.{end}"))).unwrap();
+    (read("list"), read("out"))
 }
 
 #[test]

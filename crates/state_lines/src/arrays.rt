@@ -2,10 +2,10 @@
 ghost use mathlib.Core.Path.{_≡_};
 ghost use lib.ListN.{length};
 
-pub fn input_array() -> [u8; 1048576]
-    ensures { λ r. ⌜ 1048576 ≡ length r ⌝ }
+pub fn input_array() -> [u8; 2621440]
+    ensures { λ r. ⌜ 2621440 ≡ length r ⌝ }
 {
-    [0; 1048576]
+    [0; 2621440]
 }
 
 pub fn table_array() -> [u16; 20500]

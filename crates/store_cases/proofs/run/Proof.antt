@@ -3,8 +3,8 @@ use Prim.Native.Nat.{_-_, _≤_}
 use lib.ListN.{length}
 use borrow.Author.Needs.{needs}
 use Rattle.state_lines.specs.Places.{Holds, Room}
-use Rattle.call_cases.proofs.run.Statement.{statement}
-use Rattle.call_cases.proofs.run.Tie as tie
+use Rattle.store_cases.proofs.run.Statement.{statement}
+use Rattle.store_cases.proofs.run.Tie as tie
 
 abbrev Inv-loop : tie.InvT-loop
 Inv-loop input table₀ scratch₀ out₀ here₀ table scratch out here =

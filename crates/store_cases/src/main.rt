@@ -1,4 +1,4 @@
-// Fresh and the row calls over a list of stores and calls, with every reply and what each call left: the expected output is the reference's.
+// The ten calls over a list of stores and calls, with every reply and what each call left: the expected output is the reference's.
 use calls::RowReply;
 use libc::STDIN_FILENO;
 use machine::Queue;
@@ -32,7 +32,7 @@ fn row(r: RowReply) -> Made {
 }
 
 fn fresh(table: &mut [u16], queue: Queue, c: u16) -> Made {
-    let r = calls::fresh(table, queue, c);
+    let r = store::fresh(table, queue, c);
     let answer = r.answer;
     let queue = r.queue;
     Made {
@@ -41,16 +41,43 @@ fn fresh(table: &mut [u16], queue: Queue, c: u16) -> Made {
     }
 }
 
-fn make_call(table: &mut [u16], queue: Queue, code: u16, p: u16, q: u16) -> Made {
+fn step(table: &mut [u16], queue: Queue, scratch: &mut [u16]) -> Made {
+    let r = store::step(table, queue, scratch);
+    let answer = r.answer;
+    let queue = r.queue;
+    Made {
+        reply: state_lines::step_reply(answer),
+        queue,
+    }
+}
+
+fn audit(table: &[u16], queue: Queue, scratch: &mut [u16]) -> Made {
+    let answer = store::audit(table, queue, scratch);
+    Made {
+        reply: state_lines::audit_reply(answer),
+        queue,
+    }
+}
+
+fn make_call(
+    table: &mut [u16],
+    queue: Queue,
+    scratch: &mut [u16],
+    code: u16,
+    p: u16,
+    q: u16,
+) -> Made {
     match code {
         0 => fresh(table, queue, p),
-        1 => row(calls::car(table, queue, p)),
-        2 => row(calls::cdr(table, queue, p)),
-        3 => row(calls::cons(table, queue, p, q)),
-        4 => row(calls::set_left(table, queue, p, q)),
-        5 => row(calls::set_right(table, queue, p, q)),
-        6 => row(calls::up(table, queue, p, q)),
-        7 => row(calls::down(table, queue, p, q)),
+        1 => row(store::car(table, queue, p)),
+        2 => row(store::cdr(table, queue, p)),
+        3 => row(store::cons(table, queue, p, q)),
+        4 => row(store::set_left(table, queue, p, q)),
+        5 => row(store::set_right(table, queue, p, q)),
+        6 => row(store::up(table, queue, p, q)),
+        7 => row(store::down(table, queue, p, q)),
+        8 => step(table, queue, scratch),
+        9 => audit(table, queue, scratch),
         _ => Made {
             reply: Reply::Refused(0),
             queue,
@@ -59,15 +86,22 @@ fn make_call(table: &mut [u16], queue: Queue, code: u16, p: u16, q: u16) -> Made
 }
 
 // Makes a line's call on the words that are the table, and writes what came of it.
-fn answer(table: &mut [u16], scratch: &[u16], line: Line, out: &mut [u8], to: usize) -> Progress
+fn answer(table: &mut [u16], scratch: &mut [u16], line: Line, out: &mut [u8], to: usize) -> Progress
     requires { ⌜ Holds (line .store) (now table) (now scratch) × Room to (now out) ⌝ }
-    ensures { λ r. ⌜ (r .at ≡ line .next) × Holds (r .store) (now (table .exit)) (now (scratch .entry)) × Room (r .to) (now (out .exit)) ⌝ }
+    ensures { λ r. ⌜ (r .at ≡ line .next) × Holds (r .store) (now (table .exit)) (now (scratch .exit)) × Room (r .to) (now (out .exit)) ⌝ }
 {
     let call = line.call;
     let store = line.store;
     let n = store.table;
     let m = store.scratch;
-    let made = make_call(&mut table[..n], store.queue, call.code, call.p, call.q);
+    let made = make_call(
+        &mut table[..n],
+        store.queue,
+        &mut scratch[..m],
+        call.code,
+        call.p,
+        call.q,
+    );
     let reply = made.reply;
     let queue = made.queue;
     let to = state_lines::write_call(out, to, call, reply, &table[..n], queue, &scratch[..m]);
