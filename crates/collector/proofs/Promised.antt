@@ -5,7 +5,7 @@ use mathlib.Core.List.{List, append-nil}
 use Prim.Native.Nat.{ℕ, zero, suc}
 use Rattle.machine.specs.declared.Queue.{Queue}
 use Rattle.machine.specs.Calls.{step, refused, idle, Store, store}
-use Rattle.machine.specs.Step.{Outcome, outcome, stepped}
+use Rattle.machine.specs.Step.{Outcome, outcome}
 use Rattle.machine.specs.Questions.{firstNo, early, late, questions}
 use Rattle.machine.specs.Audit.{Sound}
 use Rattle.machine.specs.Machine.{accepted, answered, machine}
