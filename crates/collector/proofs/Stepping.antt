@@ -141,6 +141,7 @@ module _ (t : List ℕ) (q : Queue) (s : List ℕ) where
     asked = λ n g. (e ∙ ap refused (sym a ∙ g), ap (λ (x : Queue). store t x s) f);
     answered = λ n g. absurd (omega arith);
     idles = λ g. absurd (omega arith);
+    replies = λ g. absurd (omega arith);
     takes = λ g. absurd (omega arith);
     exact = λ g. absurd (omega arith);
     bounded = untouched (r .queue);
@@ -161,6 +162,7 @@ module _ (t : List ℕ) (q : Queue) (s : List ℕ) where
     asked = λ n g. absurd (omega (arith, no-0 h k));
     answered = λ n g d. let x : _≡_ {A = ℕ} 0 1 = cc in omega arith;
     idles = λ g d. (e, same);
+    replies = λ g d. absurd (omega arith);
     takes = λ g d. absurd (omega arith);
     exact = λ g m. rw e (ap (outcome idle) same ∙ sym (none-waiting z));
     bounded = untouched (r .queue);
@@ -174,6 +176,7 @@ module _ (t : List ℕ) (q : Queue) (s : List ℕ) where
     asked = λ n g. absurd (omega arith);
     answered = λ n g d. let x : _≡_ {A = ℕ} 0 1 = cc (ap stepReply (p .answer)) in omega arith;
     idles = λ g d. absurd (omega (arith, h .some));
+    replies = λ g d. (_, ap stepReply (p .answer));
     takes = λ g d. (p .queue, p .scratch);
     exact = λ g m. rw (p .table, p .answer, p .queue, p .scratch) (exact t q s h m);
     bounded = rw (p .table, p .queue, p .scratch) (record {

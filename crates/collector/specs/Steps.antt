@@ -11,7 +11,7 @@ use Rattle.machine.specs.Words.{mostCells}
 use Rattle.machine.specs.Table.{capacity, lastFree, tableLength}
 use Rattle.machine.specs.Queue.{Packet, slots, slot, waiting, taken}
 use Rattle.machine.specs.Packets.{changes}
-use Rattle.machine.specs.Calls.{step, refused, idle, store}
+use Rattle.machine.specs.Calls.{step, refused, idle, applied, store}
 use Rattle.machine.specs.Step.{unreached, swept, cleared, outcome, stepped}
 use Rattle.machine.specs.Questions.{firstNo, early}
 use Rattle.machine.specs.Audit.{allReached}
@@ -72,7 +72,8 @@ pub record Steps (t : List ℕ) (q : Queue) (s : List ℕ) (r : Stepped) (t′ s
   pub answered : ((n : ℕ) → firstNo (early (store t q s) step) ≡ 0 → stepReply (r .answer) ≡ refused n → ⊥)
   -- idle where no packet waits, and nothing changes
   pub idles : (firstNo (early (store t q s) step) ≡ 0 → q .count ≡ 0 → (stepReply (r .answer) ≡ idle) × (store t′ (r .queue) s′ ≡ store t q s))
-  -- else the oldest packet leaves the queue, and the first C words of the scratch are 0
+  -- else the reply has the oldest packet's kind, the packet leaves the queue, and the first C words of the scratch are 0
+  pub replies : (firstNo (early (store t q s) step) ≡ 0 → 0 < q .count → (n : ℕ) × (stepReply (r .answer) ≡ applied (oldest q .kind) n))
   pub takes : (firstNo (early (store t q s) step) ≡ 0 → 0 < q .count → (r .queue ≡ taken q) × (s′ ≡ cleared (capacity t) s))
   -- by the machine's definition
   pub exact : (firstNo (early (store t q s) step) ≡ 0 → Premises t q → outcome (stepReply (r .answer)) (store t′ (r .queue) s′) ≡ stepped (store t q s))
