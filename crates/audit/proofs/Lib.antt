@@ -1,4 +1,5 @@
 -- Laws that join what the code tests to the machine's rules.
+
 pub mod Tests
 pub mod Cells
 pub mod Walk

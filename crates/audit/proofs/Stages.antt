@@ -1,32 +1,26 @@
 -- S4: the stages of the undoing read through the packets, and how a stage's pointer counts follow from those of the stage behind it.
-use mathlib.Core.Path.{_≡_, refl, sym, ap, ap₂, _∙_, subst}
-use mathlib.Core.Logic.{_⊎_, inl, inr, ⊎-elim}
-use mathlib.Core.Bool.{Bool, true, false, cond, not, _&&_, _||_}
-use mathlib.Core.List.{List, [], _∷_, _++_}
+use mathlib.Core.Path.{_≡_, refl, sym, ap, ap₂, _∙_}
+use mathlib.Core.Logic.{⊎-elim}
+use mathlib.Core.Bool.{Bool, true, false, cond, _&&_, _||_}
+use mathlib.Core.List.{List, [], _∷_}
 use Prim.Native.Nat.{ℕ, zero, suc, pred, _+_, _-_, _%_, _≤_, _<_}
 use native.Mathlib.Omega.{arith}
-use native.Mathlib.Numerals.{add-one}
 use lib.Dec.{leb, ltb, eqb, eqb·suc-suc}
-use lib.ListN.{length, getD}
-use borrow.Author.Tests.{leb-true, le-leb, eqb-true, eqb-false, eq-eqb, ne-eqb}
+use lib.ListN.{length}
+use borrow.Author.Tests.{leb-true, eqb-true, ne-eqb}
 use Rattle.machine.specs.declared.Queue.{Queue}
-use Rattle.machine.specs.Range.{every, everyOf, total, matching}
-use Rattle.machine.specs.Words.{isNil, isCell, isAtom, isLegal, ceiling}
-use Rattle.machine.specs.Table.{stride, left, right, state, capacity, tableLength, wordAt, putWord, inUse}
-use Rattle.machine.specs.Queue.{Packet, slots, slot, packetsFrom, waiting}
-use Rattle.machine.specs.Packets.{Kind, reads, makes, replaces, raises, lowers, unknown, kindOf, namesOf, names}
+use Rattle.machine.specs.Audit.{fieldSound, wordsOfKind, packetLegal, namesInUse, packetsLegal, undoableOf, undoneOf, undoable, undone, before}
 use Rattle.machine.specs.Counts.{pointers, pointersFrom}
-use Rattle.machine.specs.Questions.{pointersWithin}
-use Rattle.machine.specs.Calls.{field}
-use Rattle.machine.specs.Audit.{fieldSound, wordsOfKind, packetLegal, namesInUse, packetsLegal, undoableOf, undoneOf, undoable, undone, before, undoes}
-use Rattle.machine.specs.Facts.{Within}
-use Rattle.machine.proofs.Range.{tested, not-both, and-both, and-first, and-second, or-true, every-at, total-same, total-at, matching-same, matching-other}
-use Rattle.machine.proofs.Words.{cell-place, cell-number}
+use Rattle.machine.specs.Packets.{Kind, reads, makes, replaces, raises, lowers, unknown, kindOf, namesOf, names}
+use Rattle.machine.specs.Queue.{Packet, slots, slot, packetsFrom, waiting}
+use Rattle.machine.specs.Range.{everyOf, total, matching}
+use Rattle.machine.specs.Table.{left, right, state, capacity, tableLength, wordAt, putWord, inUse}
+use Rattle.machine.specs.Words.{isNil, isCell, isAtom, isLegal}
+use Rattle.machine.proofs.Range.{and-first, and-second, or-true, every-at, total-at}
 use Rattle.machine.proofs.Table.{Inside, room, word-put, word-same, word-other, length-putWord, capacity-putWord, inside-put}
-use Rattle.machine.proofs.Undo.{within-is, undoes-rest}
+use Rattle.machine.proofs.Words.{cell-place, cell-number}
 use Rattle.audit.specs.Packets.{packetOn, packetSound}
-use Rattle.audit.specs.Stages.{newer, fieldBeforeOf, fieldBefore, stageField, stage}
-use Rattle.audit.proofs.Tests.{refuted, same-tests}
+use Rattle.audit.specs.Stages.{newer, fieldBeforeOf, fieldBefore, stageField}
 use Rattle.audit.proofs.Words.{legal-every}
 
 -- a packet that wrote fields did so in a cell in use, which is told by c

@@ -1,8 +1,8 @@
 -- S4: one packet undone, on plain lists; and all of them.
-use mathlib.Core.Path.{_≡_, refl, sym, ap, ap₂, _∙_, subst}
+use mathlib.Core.Path.{_≡_, refl, sym, ap, _∙_, subst}
 use mathlib.Core.Logic.{⊎-elim}
-use mathlib.Core.Bool.{Bool, true, false, cond, not, _&&_, _||_, false≢true}
-use mathlib.Core.List.{List, [], _∷_}
+use mathlib.Core.Bool.{Bool, true, false, not, _&&_, _||_, false≢true}
+use mathlib.Core.List.{List, _∷_}
 use Prim.Native.Nat.{ℕ, zero, suc, pred, _+_, _-_, _≤_, _<_}
 use native.Mathlib.Omega.{arith}
 use native.Mathlib.Numerals.{add-one, sub-one}
@@ -10,24 +10,24 @@ use lib.Dec.{leb, eqb}
 use lib.ListN.{length, getD, drop}
 use borrow.Author.Tests.{leb-true, le-leb, eqb-true, eqb-false, eq-eqb, ne-eqb}
 use Rattle.machine.specs.declared.Queue.{Queue}
-use Rattle.machine.specs.Range.{every, matching}
-use Rattle.machine.specs.Words.{isCell, ceiling}
-use Rattle.machine.specs.Table.{left, right, cellCount, capacity, tableLength, wordAt, putWord, inUse}
-use Rattle.machine.specs.Queue.{Packet, waiting}
-use Rattle.machine.specs.Packets.{Kind, reads, makes, replaces, raises, lowers, unknown, kindOf}
-use Rattle.machine.specs.Counts.{pointers}
-use Rattle.machine.specs.Questions.{pointersWithin}
-use Rattle.machine.specs.Calls.{field}
 use Rattle.machine.specs.Audit.{undoableOf, undoneOf, undoable, undone, before, undoes, pointersSound}
-use Rattle.machine.proofs.Range.{tested, not-both, and-both, and-first, and-second, or-true, or-left, or-right, matching-other, every-at, every-all}
-use Rattle.machine.proofs.Words.{cell-place, cell-number, place-cell}
+use Rattle.machine.specs.Calls.{field}
+use Rattle.machine.specs.Counts.{pointers}
+use Rattle.machine.specs.Packets.{Kind, makes, replaces, kindOf}
+use Rattle.machine.specs.Questions.{pointersWithin}
+use Rattle.machine.specs.Queue.{Packet, waiting}
+use Rattle.machine.specs.Range.{every, matching}
+use Rattle.machine.specs.Table.{left, right, cellCount, capacity, tableLength, wordAt, putWord, inUse}
+use Rattle.machine.specs.Words.{isCell, ceiling}
+use Rattle.machine.proofs.Range.{tested, not-both, and-both, and-first, and-second, or-right, matching-other}
 use Rattle.machine.proofs.Table.{word-other, length-putWord, capacity-putWord}
-use Rattle.machine.proofs.Undo.{within-is, undoes-within, undoes-rest}
+use Rattle.machine.proofs.Undo.{within-is, undoes-within}
+use Rattle.machine.proofs.Words.{cell-place, place-cell}
 use Rattle.audit.specs.Packets.{packetOn}
 use Rattle.audit.specs.Stages.{newer, stageField, stage, CountUp, CountDown, Counted, Below, countWithin, wordWithin, countMatches, UsedCell, Stageable, Undoing, Undoable, Undoes, UndoesKind, UndoesPacket}
-use Rattle.audit.proofs.Tests.{refuted, same-tests, and-no-first, and-no-second, and-decides, every-same}
 use Rattle.audit.proofs.Stages.{AllPlaced, PlacedOf, Placed, all-placed, newer-step, newer-none, newer-all, Refielded, refielded, stage-field, use-put, pointers-put, Keeps, kept-undo}
-use Rattle.audit.proofs.Tally.{matching-most, nil-within}
+use Rattle.audit.proofs.Tally.{nil-within}
+use Rattle.audit.proofs.Tests.{refuted, same-tests, and-no-first, and-no-second, and-decides, every-same}
 
 -- a word is matched by no cell if it is nil
 nil-matches : (i : ℕ) → matching 0 (suc i) 1 ≡ 0

@@ -1,15 +1,13 @@
-use mathlib.Core.Path.{ap}
-use mathlib.Core.Path.{_≡_, sym, _∙_}
+use mathlib.Core.Path.{ap, _≡_, sym, _∙_}
 use mathlib.Core.List.{List, []}
 use Prim.Native.Nat.{ℕ, _-_, _≤_}
 use native.Mathlib.Omega.{arith}
 use lib.Dec.{eqb}
 use borrow.Author.Needs.{needs}
-use Rattle.audit.specs.Chain.{freeCells}
 use Rattle.machine.proofs.Range.{not-both}
-use Rattle.audit.proofs.Walk.{walk-ends}
+use Rattle.audit.specs.Chain.{freeCells}
 use Rattle.audit.proofs.Tests.{refuted, passed, failed}
-use Rattle.audit.proofs.Walk.{Walked, walked-none, walked-more, free-cell, walk-next, walk-stops, walk-meets}
+use Rattle.audit.proofs.Walk.{walk-ends, Walked, walked-none, walked-more, free-cell, walk-next, walk-stops}
 use Rattle.audit.proofs.chain.chain_walks.Statement.{statement}
 use Rattle.audit.proofs.chain.chain_walks.Tie as tie
 

@@ -1,12 +1,12 @@
-use mathlib.Core.Path.{_≡_, sym, _∙_}
+use mathlib.Core.Path.{_≡_}
 use Prim.Native.Nat.{_-_, _≤_}
 use native.Mathlib.Omega.{arith}
 use borrow.Author.Needs.{needs}
-use Rattle.machine.specs.Table.{capacity}
 use Rattle.machine.specs.Range.{total}
+use Rattle.machine.specs.Table.{capacity}
 use Rattle.audit.specs.Chain.{freeBit, freeCells}
-use Rattle.audit.proofs.Walk.{bit-most}
 use Rattle.audit.proofs.Tests.{total-none, total-more}
+use Rattle.audit.proofs.Walk.{bit-most}
 use Rattle.audit.proofs.chain.free_cells.Statement.{statement}
 use Rattle.audit.proofs.chain.free_cells.Tie as tie
 

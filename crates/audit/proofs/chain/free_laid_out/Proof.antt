@@ -1,10 +1,10 @@
-use mathlib.Core.Path.{_≡_, sym, _∙_}
+use mathlib.Core.Path.{_≡_, sym}
 use mathlib.Core.Bool.{true}
 use Prim.Native.Nat.{_-_, _≤_}
 use native.Mathlib.Omega.{arith}
 use borrow.Author.Needs.{needs}
-use Rattle.machine.specs.Table.{capacity}
 use Rattle.machine.specs.Range.{every}
+use Rattle.machine.specs.Table.{capacity}
 use Rattle.audit.specs.Chain.{freeOrUsed, freeLaidOut}
 use Rattle.audit.proofs.Tests.{passed, failed, every-none, every-more, every-fails}
 use Rattle.audit.proofs.chain.free_laid_out.Statement.{statement}

@@ -1,8 +1,8 @@
 use mathlib.Core.Path.{sym}
 use lib.Dec.{eqb}
 use borrow.Author.Needs.{needs}
-use Rattle.machine.specs.Words.{isCell}
 use Rattle.machine.specs.Audit.{wordsOfKind}
+use Rattle.machine.specs.Words.{isCell}
 use Rattle.audit.proofs.Tests.{passed, failed, first-fails, second-fails, third-decides}
 use Rattle.audit.proofs.packets.move_legal.Statement.{statement}
 use Rattle.audit.proofs.packets.move_legal.Tie as tie

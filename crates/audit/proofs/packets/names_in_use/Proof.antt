@@ -1,11 +1,11 @@
 use mathlib.Core.Path.{ap, _∙_}
 use mathlib.Core.Logic.{inl, inr, ⊎-elim}
 use borrow.Author.Needs.{needs}
+use Rattle.machine.specs.Packets.{reads, makes, replaces, raises, lowers, unknown, kindOf, namesOf}
 use Rattle.machine.specs.Range.{everyOf}
 use Rattle.machine.specs.Table.{left, right}
-use Rattle.machine.specs.Packets.{reads, makes, replaces, raises, lowers, unknown, kindOf, namesOf}
-use Rattle.queue.specs.Sums.{packetOf}
 use Rattle.queue.proofs.Totals.{kind-unknown}
+use Rattle.queue.specs.Sums.{packetOf}
 use Rattle.audit.proofs.Words.{names-by, name-one}
 use Rattle.audit.proofs.packets.names_in_use.Statement.{statement}
 use Rattle.audit.proofs.packets.names_in_use.Tie as tie

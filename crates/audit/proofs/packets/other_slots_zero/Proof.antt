@@ -1,11 +1,11 @@
-use mathlib.Core.Path.{_≡_, refl, sym, _∙_}
+use mathlib.Core.Path.{_≡_, refl, sym}
 use mathlib.Core.Bool.{true}
 use Prim.Native.Nat.{_-_, _≤_}
 use native.Mathlib.Omega.{arith}
 use borrow.Author.Needs.{needs}
-use Rattle.machine.specs.Range.{every}
-use Rattle.machine.specs.Queue.{slots}
 use Rattle.machine.specs.Audit.{otherSlotsZero}
+use Rattle.machine.specs.Queue.{slots}
+use Rattle.machine.specs.Range.{every}
 use Rattle.audit.specs.Packets.{restZero}
 use Rattle.audit.proofs.Tests.{passed, failed, every-none, every-more, every-fails}
 use Rattle.audit.proofs.packets.other_slots_zero.Statement.{statement}

@@ -1,11 +1,10 @@
 use mathlib.Core.Path.{sym, _∙_}
 use borrow.Author.Needs.{needs}
-use Rattle.machine.specs.Audit.{packetLegal, namesInUse}
+use Rattle.machine.specs.Audit.{namesInUse}
 use Rattle.queue.specs.Sums.{packetOf}
-use Rattle.machine.specs.Audit.{packetLegal}
 use Rattle.audit.specs.Packets.{packetSound}
-use Rattle.audit.proofs.Words.{words-of}
 use Rattle.audit.proofs.Tests.{passed, failed, and-no-first, and-decides}
+use Rattle.audit.proofs.Words.{words-of}
 use Rattle.audit.proofs.packets.packet_sound.Statement.{statement}
 use Rattle.audit.proofs.packets.packet_sound.Tie as tie
 

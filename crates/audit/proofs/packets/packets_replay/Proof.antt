@@ -5,8 +5,8 @@ use native.Mathlib.Omega.{arith}
 use borrow.Author.Needs.{needs}
 use Rattle.machine.specs.Range.{every}
 use Rattle.audit.specs.Packets.{packetReplays}
-use Rattle.audit.proofs.Tests.{passed, failed, every-none, every-more, every-fails}
 use Rattle.audit.proofs.Replays.{replay-exact}
+use Rattle.audit.proofs.Tests.{passed, failed, every-none, every-more, every-fails}
 use Rattle.audit.proofs.packets.packets_replay.Statement.{statement}
 use Rattle.audit.proofs.packets.packets_replay.Tie as tie
 

@@ -1,13 +1,13 @@
 use mathlib.Core.Path.{_≡_, sym, ap, ap₂, _∙_}
 use mathlib.Core.List.{List, [], _∷_, _++_}
-use Prim.Native.Nat.{ℕ, _+_}
+use Prim.Native.Nat.{_+_}
 use native.Mathlib.Numerals.{add-one}
 use native.Mathlib.Omega.{arith}
 use lib.Dec.{leb}
 use borrow.Author.Needs.{needs}
-use Rattle.machine.specs.Words.{ceiling}
-use Rattle.machine.specs.Queue.{Packet}
 use Rattle.machine.specs.Packets.{root, plus, minus, uses, waitingChange}
+use Rattle.machine.specs.Queue.{Packet}
+use Rattle.machine.specs.Words.{ceiling}
 use Rattle.audit.specs.Packets.{packetOn, oldest}
 use Rattle.audit.proofs.Replays.{oldest-more, stage-unheld, stage-held}
 use Rattle.audit.proofs.packets.stage_sound.Statement.{statement}

@@ -2,10 +2,10 @@ use mathlib.Core.Path.{ap}
 use mathlib.Core.Logic.{inl, inr, ⊎-elim}
 use native.Mathlib.Omega.{arith}
 use borrow.Author.Needs.{needs}
-use Rattle.machine.specs.Table.{left, right}
 use Rattle.machine.specs.Packets.{reads, makes, replaces, raises, lowers, unknown, kindOf, usesOf}
-use Rattle.queue.specs.Sums.{packetOf}
+use Rattle.machine.specs.Table.{left, right}
 use Rattle.queue.proofs.Totals.{kind-unknown}
+use Rattle.queue.specs.Sums.{packetOf}
 use Rattle.audit.proofs.Replays.{uses-by}
 use Rattle.audit.proofs.packets.times_named.Statement.{statement}
 use Rattle.audit.proofs.packets.times_named.Tie as tie

@@ -2,11 +2,11 @@ use mathlib.Core.Path.{_≡_, sym, ap, _∙_}
 use Prim.Native.Nat.{ℕ}
 use native.Mathlib.Omega.{arith}
 use borrow.Author.Needs.{needs}
-use Rattle.machine.specs.Words.{isCell}
 use Rattle.machine.specs.Table.{capacity}
+use Rattle.machine.specs.Words.{isCell}
 use Rattle.machine.proofs.Words.{cell-number, cell-place}
-use Rattle.audit.proofs.Tests.{passed, failed}
 use Rattle.audit.proofs.Replays.{no-cell-replays, cell-replays}
+use Rattle.audit.proofs.Tests.{passed, failed}
 use Rattle.audit.proofs.packets.word_replays.Statement.{statement}
 use Rattle.audit.proofs.packets.word_replays.Tie as tie
 

@@ -1,8 +1,8 @@
 use mathlib.Core.Path.{_≡_, refl, ap}
 use mathlib.Core.Logic.{inl, inr, ⊎-elim}
 use borrow.Author.Needs.{needs}
-use Rattle.machine.specs.Packets.{reads, makes, raises, lowers, kindOf}
 use Rattle.machine.specs.Audit.{wordsOfKind}
+use Rattle.machine.specs.Packets.{reads, makes, raises, lowers, kindOf}
 use Rattle.queue.proofs.Totals.{kind-unknown}
 use Rattle.audit.proofs.packets.words_legal.Statement.{statement}
 use Rattle.audit.proofs.packets.words_legal.Tie as tie

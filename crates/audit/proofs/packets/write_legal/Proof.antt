@@ -1,7 +1,7 @@
 use mathlib.Core.Path.{sym, _∙_}
 use borrow.Author.Needs.{needs}
-use Rattle.machine.specs.Words.{isCell, isLegal}
 use Rattle.machine.specs.Audit.{wordsOfKind}
+use Rattle.machine.specs.Words.{isCell, isLegal}
 use Rattle.audit.proofs.Tests.{passed, failed, first-fails, second-fails, third-decides}
 use Rattle.audit.proofs.packets.write_legal.Statement.{statement}
 use Rattle.audit.proofs.packets.write_legal.Tie as tie

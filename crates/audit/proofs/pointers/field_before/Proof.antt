@@ -4,8 +4,8 @@ use native.Mathlib.Omega.{arith}
 use lib.Dec.{eqb}
 use borrow.Author.Tests.{eq-eqb, ne-eqb}
 use borrow.Author.Needs.{needs}
-use Rattle.machine.specs.Table.{left, right}
 use Rattle.machine.specs.Packets.{makes, replaces, kindOf}
+use Rattle.machine.specs.Table.{left, right}
 use Rattle.queue.specs.Sums.{packetOf}
 use Rattle.audit.specs.Stages.{fieldBeforeOf}
 use Rattle.audit.proofs.Stages.{before-by, keeps, kept-field}

@@ -1,11 +1,9 @@
-use mathlib.Core.Path.{ap, _∙_}
-use mathlib.Core.Path.{_≡_}
+use mathlib.Core.Path.{ap, _∙_, _≡_}
 use Prim.Native.Nat.{_≤_}
 use native.Mathlib.Omega.{arith}
 use borrow.Author.Needs.{needs}
 use Rattle.machine.specs.Queue.{Packet}
-use Rattle.audit.specs.Stages.{fieldBefore}
-use Rattle.audit.specs.Stages.{newer, stageField}
+use Rattle.audit.specs.Stages.{fieldBefore, newer, stageField}
 use Rattle.audit.proofs.Stages.{stage-none, stage-less}
 use Rattle.audit.proofs.pointers.stage_field.Statement.{statement}
 use Rattle.audit.proofs.pointers.stage_field.Tie as tie

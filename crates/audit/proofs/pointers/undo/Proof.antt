@@ -1,8 +1,8 @@
 use mathlib.Core.Path.{ap}
 use native.Mathlib.Omega.{arith}
 use borrow.Author.Needs.{needs}
-use Rattle.machine.specs.Table.{left, right}
 use Rattle.machine.specs.Packets.{makes, replaces, kindOf}
+use Rattle.machine.specs.Table.{left, right}
 use Rattle.queue.specs.Sums.{packetOf}
 use Rattle.audit.proofs.Stages.{keeps}
 use Rattle.audit.proofs.Undone.{makes-used, replaces-used, undo-kind, undo-kept}

@@ -1,8 +1,6 @@
-use mathlib.Core.Path.{_≡_, _∙_}
 use native.Mathlib.Omega.{arith}
 use borrow.Author.Needs.{needs}
-use Rattle.audit.proofs.Undone.{undo-below}
-use Rattle.audit.proofs.Undone.{replace-no, replace-yes}
+use Rattle.audit.proofs.Undone.{undo-below, replace-no, replace-yes}
 use Rattle.audit.proofs.pointers.undo_replace.Statement.{statement}
 use Rattle.audit.proofs.pointers.undo_replace.Tie as tie
 
