@@ -6,6 +6,8 @@ pub mod Walk
 pub mod Words
 pub mod Replays
 pub mod Stages
+pub mod Pointed
 pub mod Tally
 pub mod Undone
+pub mod History
 pub mod Rules

@@ -241,6 +241,6 @@ module _ (t : List ℕ) (q : Queue) (j x : ℕ) where
   unfolding wordReplays
   no-cell-replays h = rw h
 
-  pub cell-replays : isCell (capacity t) x ≡ true → (n : ℕ) → n ≡ wordAt t (x - 1) rootCount → stageSound x n (oldest q j) (packetOn q j) ≡ wordReplays t q j x
+  pub cell-replays : isCell (capacity t) x ≡ true → (n : ℕ) (r : Bool) → n ≡ wordAt t (x - 1) rootCount → r ≡ stageSound x n (oldest q j) (packetOn q j) → r ≡ wordReplays t q j x
   unfolding wordReplays
-  cell-replays h n e = rw (h, e, sub-one x)
+  cell-replays h n r e k = rw (h, ← (sub-one x), ← e) k

@@ -54,7 +54,8 @@ last-free-requires : tie.Need-last-free-requires Inv-loop μ-loop
 last-free-requires c κs = search needs
 
 returns-3 : tie.Need-returns-3 Inv-loop μ-loop
-returns-3 c = let t = c .before .before .before .before .before .before .args .table .now in
+returns-3 c =
+    let t = c .before .before .before .before .before .before .args .table .now in
     let l = c .before .before .before .loop in
     let e : l .steps ≡ freeCells t = omega arith in
     ap (eqb (l .last)) (c .last-free .ensures) ∙ walk-ends t (l .w) (l .last) (l .inv .1) (rw e at (l .inv .2)) (c .before .if2 .left) (c .before .before .before .before .before .before .pre .1)

@@ -38,14 +38,16 @@ loop-less : tie.Need-loop-less Inv-loop μ-loop
 loop-less c = search needs
 
 loop-again : tie.Need-loop-again Inv-loop μ-loop
-loop-again c = let t = c .before .before .before .before .before .args .table .now in
+loop-again c =
+    let t = c .before .before .before .before .before .args .table .now in
     let i = c .before .before .loop .place in
     let b = bit-most t i in
     (omega arith, omega arith, omega (arith, total-more i (freeBit t)))
 
 returns : tie.Need-returns Inv-loop μ-loop
 unfolding freeCells
-returns c = let e : c .before .loop .place ≡ capacity (c .before .before .before .before .args .table .now) = omega arith in
+returns c =
+    let e : c .before .loop .place ≡ capacity (c .before .before .before .before .args .table .now) = omega arith in
     rw e at (c .before .loop .inv .2)
 
 pub free-cells-spec : {M : Type 1} → statement M

@@ -43,7 +43,8 @@ loop-again c = (omega arith, every-more _ _ (c .before .before .before .loop .in
 
 returns-2 : tie.Need-returns-2 Inv-loop μ-loop
 unfolding freeLaidOut
-returns-2 c = let e : c .before .loop .place ≡ capacity (c .before .before .before .before .args .table .now) = omega arith in
+returns-2 c =
+    let e : c .before .loop .place ≡ capacity (c .before .before .before .before .args .table .now) = omega arith in
     sym (rw e at (c .before .loop .inv .1))
 
 pub free-laid-out-spec : {M : Type 1} → statement M
