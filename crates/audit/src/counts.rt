@@ -10,7 +10,7 @@ ghost use Rattle.audit.specs.Room.{Room};
 ghost use Rattle.audit.specs.Stages.{CountUp, CountDown, CountCell, Counted, Below, countWithin, wordWithin, countMatches};
 
 // One pointer more to the word w, if it is a cell.
-pub fn raise(scratch: &mut [u16], c: u16, w: u16)
+pub(crate) fn raise(scratch: &mut [u16], c: u16, w: u16)
     requires { ⌜ (c ≤ length (now scratch)) × Below c 65534 (now scratch) ⌝ }
     ensures { λ r. ⌜ CountUp c w (now (scratch .entry)) (now (scratch .exit)) ⌝ }
 {
@@ -25,7 +25,7 @@ pub fn raise(scratch: &mut [u16], c: u16, w: u16)
 }
 
 // One pointer less.
-pub fn lower(scratch: &mut [u16], c: u16, w: u16)
+pub(crate) fn lower(scratch: &mut [u16], c: u16, w: u16)
     requires { ⌜ c ≤ length (now scratch) ⌝ }
     ensures { λ r. ⌜ CountDown c w (now (scratch .entry)) (now (scratch .exit)) ⌝ }
 {
@@ -53,7 +53,7 @@ fn count_cell(table: &[u16], place: usize, scratch: &mut [u16], c: u16)
 }
 
 // The pointers of the table as it stands.
-pub fn count_pointers(table: &[u16], scratch: &mut [u16], c: u16)
+pub(crate) fn count_pointers(table: &[u16], scratch: &mut [u16], c: u16)
     requires { ⌜ Room (now table) × (c ≡ capacity (now table)) × (c ≤ length (now scratch)) ⌝ }
     ensures { λ r. ⌜ Counted (now (table .entry)) c (now (scratch .entry)) (now (scratch .exit)) ⌝ }
 {
@@ -66,7 +66,7 @@ pub fn count_pointers(table: &[u16], scratch: &mut [u16], c: u16)
     }
 }
 
-pub fn all_within(scratch: &[u16], c: u16) -> bool
+pub(crate) fn all_within(scratch: &[u16], c: u16) -> bool
     requires { ⌜ c ≤ length (now scratch) ⌝ }
     ensures { λ r. ⌜ r ≡ every c (countWithin (now (scratch .entry))) ⌝ }
 {
@@ -81,7 +81,7 @@ pub fn all_within(scratch: &[u16], c: u16) -> bool
     true
 }
 
-pub fn word_within(scratch: &[u16], c: u16, w: u16) -> bool
+pub(crate) fn word_within(scratch: &[u16], c: u16, w: u16) -> bool
     requires { ⌜ c ≤ length (now scratch) ⌝ }
     ensures { λ r. ⌜ r ≡ wordWithin c (now (scratch .entry)) w ⌝ }
 {
@@ -94,7 +94,7 @@ pub fn word_within(scratch: &[u16], c: u16, w: u16) -> bool
     scratch[(w - 1) as usize] <= CellCount::CEILING
 }
 
-pub fn counts_match(table: &[u16], scratch: &[u16]) -> bool
+pub(crate) fn counts_match(table: &[u16], scratch: &[u16]) -> bool
     requires { ⌜ Room (now table) × (capacity (now table) ≤ length (now scratch)) ⌝ }
     ensures { λ r. ⌜ r ≡ every (capacity (now (table .entry))) (countMatches (now (table .entry)) (now (scratch .entry))) ⌝ }
 {

@@ -48,7 +48,7 @@ fn field_before(p: Packet, place: usize, k: usize, after: u16) -> u16
 }
 
 // The field before all packets from the one on that `from` older ones wait before.
-pub fn stage_field(table: &[u16], queue: Queue, from: u16, place: usize, k: usize) -> u16
+pub(crate) fn stage_field(table: &[u16], queue: Queue, from: u16, place: usize, k: usize) -> u16
     requires { ⌜ Room (now table) × (queue .place < slots) × (queue .count ≤ slots) × (from ≤ queue .count) × (place < capacity (now table)) × (k ≤ right) ⌝ }
     ensures { λ r. ⌜ r ≡ stageField (now (table .entry)) (newer queue from) place k ⌝ }
 {

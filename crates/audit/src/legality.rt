@@ -5,7 +5,6 @@ use machine::Queue;
 use machine::RootCount;
 use queue::Packet;
 ghost use mathlib.Core.Path.{_≡_};
-ghost use mathlib.Core.Bool.{true};
 ghost use mathlib.Core.List.{[], _∷_};
 ghost use Prim.Native.Nat.{_<_, _≤_};
 ghost use Rattle.machine.specs.Range.{everyOf};
@@ -18,7 +17,7 @@ ghost use Rattle.queue.specs.Sums.{packetOf};
 ghost use Rattle.audit.specs.Room.{Room};
 ghost use Rattle.audit.specs.Packets.{packetSound};
 
-pub fn is_cell(c: u16, w: u16) -> bool
+pub(crate) fn is_cell(c: u16, w: u16) -> bool
     ensures { λ r. ⌜ r ≡ isCell c w ⌝ }
 {
     if w == 0 {
@@ -140,7 +139,7 @@ fn packet_sound(table: &[u16], p: Packet) -> bool
     names_in_use(table, p)
 }
 
-pub fn packets_legal(table: &[u16], queue: Queue) -> bool
+pub(crate) fn packets_legal(table: &[u16], queue: Queue) -> bool
     requires { ⌜ Room (now table) × (queue .place < slots) × (queue .count ≤ slots) ⌝ }
     ensures { λ r. ⌜ r ≡ packetsLegal (now (table .entry)) (waiting queue) ⌝ }
 {

@@ -12,7 +12,7 @@ ghost use Rattle.machine.specs.Audit.{cellsSound, packetsSound};
 ghost use Rattle.audit.specs.Room.{Room};
 
 // Exact where S1 holds, which is asked first.
-pub fn packets_sound(table: &[u16], queue: Queue) -> bool
+pub(crate) fn packets_sound(table: &[u16], queue: Queue) -> bool
     requires { ⌜ Room (now table) × (queue .place < slots) × (queue .count ≤ slots) × (cellsSound (now table) ≡ true) ⌝ }
     ensures { λ r. ⌜ r ≡ packetsSound (now (table .entry)) queue ⌝ }
 {

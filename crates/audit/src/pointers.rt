@@ -94,7 +94,7 @@ fn undo_all(table: &[u16], queue: Queue, scratch: &mut [u16]) -> bool
 }
 
 // Exact where S3 holds, which is asked before.
-pub fn pointers_sound(table: &[u16], queue: Queue, scratch: &mut [u16]) -> bool
+pub(crate) fn pointers_sound(table: &[u16], queue: Queue, scratch: &mut [u16]) -> bool
     requires { ⌜ Stageable (now table) queue (now scratch) ⌝ }
     ensures { λ r. ⌜ Audits (capacity (now (table .entry))) (pointersSound (now (table .entry)) (waiting queue)) (now (scratch .entry)) (now (scratch .exit)) r ⌝ }
 {

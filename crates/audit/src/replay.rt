@@ -80,7 +80,7 @@ fn packet_replays(table: &[u16], queue: Queue, j: u16) -> bool
     word_replays(table, queue, j, p.c)
 }
 
-pub fn packets_replay(table: &[u16], queue: Queue) -> bool
+pub(crate) fn packets_replay(table: &[u16], queue: Queue) -> bool
     requires { ⌜ Room (now table) × (queue .place < slots) × (queue .count ≤ slots) × (cellsSound (now table) ≡ true) ⌝ }
     ensures { λ r. ⌜ r ≡ replaysAll (now (table .entry)) queue ⌝ }
 {

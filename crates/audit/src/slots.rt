@@ -2,7 +2,6 @@
 use machine::Queue;
 use queue::Packet;
 ghost use mathlib.Core.Path.{_≡_};
-ghost use mathlib.Core.Bool.{true};
 ghost use Prim.Native.Nat.{_<_, _≤_};
 ghost use Rattle.machine.specs.Queue.{slots};
 ghost use Rattle.machine.specs.Audit.{isZeroPacket, otherSlotsZero};
@@ -10,7 +9,7 @@ ghost use Rattle.queue.specs.Sums.{packetOf};
 ghost use Rattle.audit.specs.Packets.{packetOn, restZero};
 
 // The packet that j older ones wait before.
-pub fn packet_on(queue: Queue, j: u16) -> Packet
+pub(crate) fn packet_on(queue: Queue, j: u16) -> Packet
     requires { ⌜ (queue .place < slots) × (j < slots) ⌝ }
     ensures { λ r. ⌜ packetOf r ≡ packetOn queue j ⌝ }
 {
@@ -41,7 +40,7 @@ fn rest_zero(queue: Queue, j: u16) -> bool
     is_zero(queue::packet_at(queue, at as usize))
 }
 
-pub fn other_slots_zero(queue: Queue) -> bool
+pub(crate) fn other_slots_zero(queue: Queue) -> bool
     requires { ⌜ (queue .place < slots) × (queue .count ≤ slots) ⌝ }
     ensures { λ r. ⌜ r ≡ otherSlotsZero queue ⌝ }
 {
