@@ -8,10 +8,9 @@ use native.Mathlib.Numerals.{sub-one}
 use native.Mathlib.Omega.{arith}
 use lib.Dec.{leb}
 use borrow.Author.Tests.{leb-true, le-leb, lt-leb, eq-eqb, ne-eqb}
-use Rattle.machine.specs.Range.{every}
-use Rattle.machine.specs.Words.{isNil, isCell, isAtom, ceiling}
-use Rattle.machine.specs.Table.{left, right, rootCount, cellCount, state, capacity, wordAt, inUse, isFree}
 use Rattle.machine.specs.Audit.{fieldSound, cellSound, cellsSound}
+use Rattle.machine.specs.Table.{left, right, rootCount, cellCount, state, capacity, wordAt, inUse, isFree}
+use Rattle.machine.specs.Words.{isNil, isCell, isAtom, ceiling}
 use Rattle.machine.proofs.Range.{not-both, and-both, and-first, and-second, or-true, or-left, or-right}
 use Rattle.audit.specs.Cells.{countsSound, fieldHolds}
 use Rattle.audit.proofs.Tests.{refuted, and-no-first, and-no-second, every-fails}

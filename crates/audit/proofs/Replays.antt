@@ -1,28 +1,28 @@
 -- S3's replay: a packet's own words, tested at its stage by sums of changes, decide for every cell.
-use mathlib.Core.Path.{_≡_, refl, sym, ap, _∙_, subst}
-use mathlib.Core.Logic.{_⊎_, inl, inr, ⊎-elim}
-use mathlib.Core.Bool.{Bool, true, false, cond, not, _&&_, _||_}
+use mathlib.Core.Path.{_≡_, refl, sym, ap, subst}
+use mathlib.Core.Logic.{⊎-elim}
+use mathlib.Core.Bool.{Bool, true, false, not, _&&_}
 use mathlib.Core.List.{List, [], _∷_, _++_}
 use Prim.Native.Nat.{ℕ, zero, suc, pred, _+_, _-_, _%_, _≤_, _<_}
-use native.Mathlib.Numerals.{add-one, sub-one}
+use native.Mathlib.Numerals.{sub-one}
 use native.Mathlib.Omega.{arith}
 use lib.Dec.{leb, eqb}
-use borrow.Author.Tests.{leb-true, le-leb, lt-leb, eqb-true, eqb-false}
+use borrow.Author.Tests.{leb-true, le-leb, eqb-true, eqb-false}
 use Rattle.machine.specs.declared.Queue.{Queue}
-use Rattle.machine.specs.Range.{every, matching}
-use Rattle.machine.specs.Words.{isCell, ceiling}
-use Rattle.machine.specs.Table.{rootCount, capacity, wordAt}
-use Rattle.machine.specs.Queue.{Packet, slots, slot, packetsFrom, waiting}
-use Rattle.machine.specs.Packets.{Counter, root, Direction, plus, minus, Kind, reads, makes, replaces, raises, lowers, unknown, kindOf, changesOf, changes, movedBy, usesOf, uses, waitingChange}
 use Rattle.machine.specs.Audit.{cellSound, cellsSound, replayed, replays}
-use Rattle.machine.proofs.Range.{tested, not-both, below-suc, lt-or-ge, and-both, and-first, and-second, or-true, or-left, or-right, every-at, every-all, matching-other}
-use Rattle.machine.proofs.Words.{cell-number, cell-place, place-cell}
-use Rattle.machine.proofs.Ring.{packets-snoc}
+use Rattle.machine.specs.Packets.{root, plus, minus, Kind, reads, makes, replaces, raises, lowers, unknown, kindOf, changesOf, changes, movedBy, usesOf, uses, waitingChange}
+use Rattle.machine.specs.Queue.{Packet, slots, slot, packetsFrom, waiting}
+use Rattle.machine.specs.Range.{every}
+use Rattle.machine.specs.Table.{rootCount, capacity, wordAt}
+use Rattle.machine.specs.Words.{isCell, ceiling}
+use Rattle.machine.proofs.Range.{tested, below-suc, and-both, and-first, and-second, or-right, every-at, every-all, matching-other}
 use Rattle.machine.proofs.Replay.{replays-uses, replays-bound, replays-rest}
+use Rattle.machine.proofs.Ring.{packets-snoc}
+use Rattle.machine.proofs.Words.{cell-number, cell-place, place-cell}
 use Rattle.queue.proofs.Totals.{waiting-snoc}
 use Rattle.audit.specs.Packets.{packetOn, oldest, cutTo, stageSound, wordReplays, packetReplays, replaysAll}
-use Rattle.audit.proofs.Tests.{refuted, same-tests, and-no-first}
 use Rattle.audit.proofs.Cells.{cell-counts, counts-facts}
+use Rattle.audit.proofs.Tests.{refuted, same-tests}
 
 pub uses-by : (p : Packet) (x : ℕ) (k : Kind) → kindOf (p .kind) ≡ k → usesOf k (p .a) (p .b) (p .c) x ≡ uses p x
 unfolding uses
@@ -241,6 +241,6 @@ module _ (t : List ℕ) (q : Queue) (j x : ℕ) where
   unfolding wordReplays
   no-cell-replays h = rw h
 
-  pub cell-replays : isCell (capacity t) x ≡ true → (n : ℕ) → n ≡ wordAt t (x - 1) rootCount → stageSound x n (oldest q j) (packetOn q j) ≡ wordReplays t q j x
+  pub cell-replays : isCell (capacity t) x ≡ true → (n : ℕ) (r : Bool) → n ≡ wordAt t (x - 1) rootCount → r ≡ stageSound x n (oldest q j) (packetOn q j) → r ≡ wordReplays t q j x
   unfolding wordReplays
-  cell-replays h n e = rw (h, e, sub-one x)
+  cell-replays h n r e k = rw (h, ← (sub-one x), ← e) k

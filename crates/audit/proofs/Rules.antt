@@ -1,34 +1,34 @@
 -- S5 by marks; the five rules in their order; and the machine's audit of any store.
 use mathlib.Core.Path.{_≡_, refl, sym, ap, _∙_}
 use mathlib.Core.Bool.{Bool, true, false, _&&_, _||_}
-use mathlib.Core.List.{List, [], _∷_}
-use Prim.Native.Nat.{ℕ, _≤_, _<_}
+use mathlib.Core.List.{List}
+use Prim.Native.Nat.{ℕ, _<_}
 use lib.Dec.{ltb}
 use lib.ListN.{length, getD, drop}
 use borrow.Author.Tests.{leb-true}
-use Rattle.machine.specs.declared.Queue.{Queue}
-use Rattle.machine.specs.declared.AuditAnswer
 use Rattle.machine.specs.declared.AuditAnswer.{AuditAnswer}
+use Rattle.machine.specs.declared.Queue.{Queue}
 use Rattle.machine.specs.declared.Refusal.{Refusal}
-use Rattle.machine.specs.declared.Rule
 use Rattle.machine.specs.declared.Rule.{Rule}
-use Rattle.machine.specs.Range.{every}
-use Rattle.machine.specs.Table.{capacity, inUse, isFree}
-use Rattle.machine.specs.Queue.{Packet, waiting}
-use Rattle.machine.specs.Reached.{reached}
-use Rattle.machine.specs.Calls.{store, audit, refused, broken}
-use Rattle.machine.specs.Step.{cleared, Outcome, outcome}
-use Rattle.machine.specs.Questions.{firstNo, early, late, questions, inRange, scratchEnough}
-use Rattle.machine.specs.Audit.{cellsSound, chainSound, otherSlotsZero, packetsLegal, packetsSound, pointersSound, allReached, rules, auditReply, audited}
+use Rattle.machine.specs.declared.AuditAnswer
+use Rattle.machine.specs.declared.Rule
 use Rattle.machine.specs.Answers.{refusalNumber, ruleNumber}
+use Rattle.machine.specs.Audit.{cellsSound, chainSound, otherSlotsZero, packetsLegal, packetsSound, pointersSound, allReached, rules, auditReply, audited}
+use Rattle.machine.specs.Calls.{store, audit, refused, broken}
 use Rattle.machine.specs.Machine.{accepted, answered, machine}
-use Rattle.machine.proofs.Range.{and-first, and-second}
+use Rattle.machine.specs.Questions.{firstNo, early, late, questions, inRange, scratchEnough}
+use Rattle.machine.specs.Queue.{Packet, waiting}
+use Rattle.machine.specs.Range.{every}
+use Rattle.machine.specs.Reached.{reached}
+use Rattle.machine.specs.Step.{cleared, Outcome, outcome}
+use Rattle.machine.specs.Table.{capacity, inUse, isFree}
 use Rattle.machine.proofs.Asked.{shape-is}
-use Rattle.audit.specs.Live.{freeOrMarked}
+use Rattle.machine.proofs.Range.{and-first, and-second}
 use Rattle.audit.specs.Contract.{Asked, Judged, Audited}
+use Rattle.audit.specs.Live.{freeOrMarked}
 use Rattle.audit.specs.Packets.{replaysAll}
-use Rattle.audit.proofs.Tests.{every-same}
 use Rattle.audit.proofs.Tally.{cleared-same}
+use Rattle.audit.proofs.Tests.{every-same}
 
 module _ (t s : List ℕ) (i : ℕ) where
   pub marked-used : inUse t i ≡ true → ltb 0 (getD s i 0) ≡ freeOrMarked t s i

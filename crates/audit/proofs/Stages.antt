@@ -1,32 +1,25 @@
--- S4: the stages of the undoing read through the packets, and how a stage's pointer counts follow from those of the stage behind it.
-use mathlib.Core.Path.{_≡_, refl, sym, ap, ap₂, _∙_, subst}
-use mathlib.Core.Logic.{_⊎_, inl, inr, ⊎-elim}
-use mathlib.Core.Bool.{Bool, true, false, cond, not, _&&_, _||_}
-use mathlib.Core.List.{List, [], _∷_, _++_}
+-- S4: the stages of the undoing, read through the packets.
+use mathlib.Core.Path.{_≡_, refl, sym, ap, ap₂, _∙_}
+use mathlib.Core.Logic.{⊎-elim}
+use mathlib.Core.Bool.{Bool, true, false, cond, _&&_, _||_}
+use mathlib.Core.List.{List, [], _∷_}
 use Prim.Native.Nat.{ℕ, zero, suc, pred, _+_, _-_, _%_, _≤_, _<_}
 use native.Mathlib.Omega.{arith}
-use native.Mathlib.Numerals.{add-one}
 use lib.Dec.{leb, ltb, eqb, eqb·suc-suc}
-use lib.ListN.{length, getD}
-use borrow.Author.Tests.{leb-true, le-leb, eqb-true, eqb-false, eq-eqb, ne-eqb}
+use lib.ListN.{length}
+use borrow.Author.Tests.{leb-true, eqb-true, ne-eqb}
 use Rattle.machine.specs.declared.Queue.{Queue}
-use Rattle.machine.specs.Range.{every, everyOf, total, matching}
-use Rattle.machine.specs.Words.{isNil, isCell, isAtom, isLegal, ceiling}
-use Rattle.machine.specs.Table.{stride, left, right, state, capacity, tableLength, wordAt, putWord, inUse}
-use Rattle.machine.specs.Queue.{Packet, slots, slot, packetsFrom, waiting}
+use Rattle.machine.specs.Audit.{fieldSound, wordsOfKind, packetLegal, namesInUse, packetsLegal, undoableOf, undoneOf, undoable, undone, before}
 use Rattle.machine.specs.Packets.{Kind, reads, makes, replaces, raises, lowers, unknown, kindOf, namesOf, names}
-use Rattle.machine.specs.Counts.{pointers, pointersFrom}
-use Rattle.machine.specs.Questions.{pointersWithin}
-use Rattle.machine.specs.Calls.{field}
-use Rattle.machine.specs.Audit.{fieldSound, wordsOfKind, packetLegal, namesInUse, packetsLegal, undoableOf, undoneOf, undoable, undone, before, undoes}
-use Rattle.machine.specs.Facts.{Within}
-use Rattle.machine.proofs.Range.{tested, not-both, and-both, and-first, and-second, or-true, every-at, total-same, total-at, matching-same, matching-other}
+use Rattle.machine.specs.Queue.{Packet, slots, slot, packetsFrom, waiting}
+use Rattle.machine.specs.Range.{everyOf}
+use Rattle.machine.specs.Table.{left, right, state, capacity, tableLength, wordAt, putWord, inUse}
+use Rattle.machine.specs.Words.{isNil, isCell, isAtom, isLegal}
+use Rattle.machine.proofs.Range.{and-first, and-second, or-true, every-at}
+use Rattle.machine.proofs.Table.{Inside, room, word-put, word-other, length-putWord, capacity-putWord, inside-put}
 use Rattle.machine.proofs.Words.{cell-place, cell-number}
-use Rattle.machine.proofs.Table.{Inside, room, word-put, word-same, word-other, length-putWord, capacity-putWord, inside-put}
-use Rattle.machine.proofs.Undo.{within-is, undoes-rest}
 use Rattle.audit.specs.Packets.{packetOn, packetSound}
-use Rattle.audit.specs.Stages.{newer, fieldBeforeOf, fieldBefore, stageField, stage}
-use Rattle.audit.proofs.Tests.{refuted, same-tests}
+use Rattle.audit.specs.Stages.{newer, fieldBeforeOf, fieldBefore, stageField}
 use Rattle.audit.proofs.Words.{legal-every}
 
 -- a packet that wrote fields did so in a cell in use, which is told by c
@@ -257,49 +250,3 @@ kept-undo v p h = go (kindOf (p .kind)) h
     go raises h = unfold undoneOf undoableOf in (refl, refl)
     go lowers h = unfold undoneOf undoableOf in (refl, refl)
     go unknown h = unfold undoneOf undoableOf in (refl, refl)
-
--- pointers after one field is written
-module _ (v : List ℕ) (i k w x : ℕ) (f : tableLength (capacity v) ≤ length v) (l : i < capacity v) (lk : k ≤ right) (u : inUse v i ≡ true) where
-  abbrev v′ : List ℕ
-  v′ = putWord v i k w
-
-  pub use-put : (j : ℕ) → inUse v′ j ≡ inUse v j
-  unfolding inUse
-  use-put j = ap (ltb 0) (word-other v i k w j state (omega arith) (omega arith) (λ a b. omega arith))
-
-  elsewhere : (j : ℕ) → (j ≡ i → ⊥) → pointersFrom v′ x j ≡ pointersFrom v x j
-  unfolding pointersFrom
-  elsewhere j d =
-      rw (use-put j, word-other v i k w j left (omega arith) (omega arith) (λ a b. d (sym a)), word-other v i k w j right (omega arith) (omega arith) (λ a b. d (sym a)))
-
-  from-used : (z : List ℕ) → inUse z i ≡ true → pointersFrom z x i ≡ matching (wordAt z i left) x 1 + matching (wordAt z i right) x 1
-  unfolding pointersFrom
-  from-used z e = rw e
-
-  here : pointersFrom v′ x i + matching (wordAt v i k) x 1 ≡ pointersFrom v x i + matching w x 1
-  here = go k lk refl
-    where
-      inv : Inside v i
-      inv = room v (capacity v) i f l
-
-      hit : ℕ → ℕ
-      hit n = matching n x 1
-
-      go : (m : ℕ) → m ≤ right → k ≡ m → pointersFrom v′ x i + matching (wordAt v i k) x 1 ≡ pointersFrom v x i + matching w x 1
-      go zero n e =
-          let s : wordAt v′ i left ≡ w = ap (wordAt v′ i) (sym e) ∙ word-same v i k w inv (omega arith) in
-          let o : wordAt v′ i right ≡ wordAt v i right = word-other v i k w i right (omega arith) (omega arith) (λ _ y. omega arith) in
-          omega (arith, from-used v′ (use-put i ∙ u), from-used v u, ap hit s, ap hit o, ap (λ (m : ℕ). hit (wordAt v i m)) e)
-      go (suc zero) n e =
-          let s : wordAt v′ i right ≡ w = ap (wordAt v′ i) (sym e) ∙ word-same v i k w inv (omega arith) in
-          let o : wordAt v′ i left ≡ wordAt v i left = word-other v i k w i left (omega arith) (omega arith) (λ _ y. omega arith) in
-          omega (arith, from-used v′ (use-put i ∙ u), from-used v u, ap hit s, ap hit o, ap (λ (m : ℕ). hit (wordAt v i m)) e)
-      go (suc (suc m)) n e = absurd (omega arith)
-
-  pub pointers-put : pointers v′ x + matching (wordAt v i k) x 1 ≡ pointers v x + matching w x 1
-  unfolding pointers
-  pointers-put =
-      let e : total (capacity v) (pointersFrom v′ x) + pointersFrom v x i ≡ total (capacity v) (pointersFrom v x) + pointersFrom v′ x i =
-      total-at (capacity v) (pointersFrom v′ x) (pointersFrom v x) i l (λ j m d. elsewhere j d) in
-      let c : total (capacity v′) (pointersFrom v′ x) ≡ total (capacity v) (pointersFrom v′ x) = ap (λ (n : ℕ). total n (pointersFrom v′ x)) (capacity-putWord v i k w) in
-      omega (arith, here)

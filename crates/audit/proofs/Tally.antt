@@ -1,25 +1,24 @@
 -- S4: pointer counts in the scratch, one word up or down, and what the code tests of them.
 use mathlib.Core.Path.{_≡_, refl, sym, ap, _∙_}
 use mathlib.Core.Logic.{⊎-elim}
-use mathlib.Core.Bool.{Bool, true, false, cond, not, _&&_, _||_}
+use mathlib.Core.Bool.{true, false}
 use mathlib.Core.List.{List, _++_}
-use Prim.Native.Nat.{ℕ, zero, suc, pred, _+_, _-_, _*_, _≤_, _<_}
+use Prim.Native.Nat.{ℕ, zero, suc, _+_, _-_, _*_, _≤_, _<_}
 use native.Mathlib.Omega.{arith}
 use native.Mathlib.Numerals.{sub-one}
 use lib.Dec.{leb, eqb}
 use lib.ListN.{length, getD, set, drop, replicate, length-replicate, getD-replicate, List·getD-append}
 use lib.Seq.{getD-set-same, getD-set-other, drop-set-lt, drop-at}
-use borrow.Author.Tests.{le-leb, lt-leb, eqb-true, eqb-false, eq-eqb, ne-eqb}
-use Rattle.machine.specs.Range.{every, total, matching}
-use Rattle.machine.specs.Words.{isCell, ceiling}
-use Rattle.machine.specs.Table.{left, right, capacity, wordAt, inUse}
+use borrow.Author.Tests.{le-leb, lt-leb, eqb-true, eqb-false}
 use Rattle.machine.specs.Counts.{pointers, pointersFrom}
+use Rattle.machine.specs.Range.{total, matching}
 use Rattle.machine.specs.Step.{cleared}
-use Rattle.machine.specs.Questions.{pointersWithin}
-use Rattle.machine.proofs.Range.{tested, total-le, matching-same, matching-other}
-use Rattle.audit.specs.Stages.{CountUp, CountDown, CountCell, Counted, Below, countWithin, wordWithin, countMatches}
-use Rattle.audit.proofs.Words.{nil-no-cell, some-cell}
+use Rattle.machine.specs.Table.{left, right, capacity, wordAt, inUse}
+use Rattle.machine.specs.Words.{isCell, ceiling}
+use Rattle.machine.proofs.Range.{tested, matching-same, matching-other}
+use Rattle.audit.specs.Stages.{CountUp, CountDown, CountCell, Counted, Below, countWithin, wordWithin}
 use Rattle.audit.proofs.Tests.{and-no-second, total-more}
+use Rattle.audit.proofs.Words.{nil-no-cell, some-cell}
 
 pub matching-most : (w x : ℕ) → matching w x 1 ≤ 1
 matching-most w x =

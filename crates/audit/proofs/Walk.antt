@@ -1,25 +1,25 @@
 -- S2: a walk over free cells that ends after as many steps as there are free cells meets each of them once; and the free chain is such a walk.
 use mathlib.Core.Path.{_≡_, refl, sym, ap, ap₂, _∙_}
-use mathlib.Core.Logic.{_⊎_, inl, inr, ⊎-elim}
+use mathlib.Core.Logic.{⊎-elim}
 use mathlib.Core.Bool.{Bool, true, false, cond, not, _&&_, _||_}
 use mathlib.Core.List.{List, [], _∷_, _++_, map, append-nil}
-use Prim.Native.Nat.{ℕ, zero, suc, pred, _+_, _-_, _≤_, _<_}
+use Prim.Native.Nat.{ℕ, suc, pred, _+_, _-_, _≤_, _<_}
 use native.Mathlib.Numerals.{sub-one}
 use native.Mathlib.Omega.{arith}
 use lib.Dec.{eqb}
 use lib.ListN.{length, length-append}
 use borrow.Author.Tests.{le-leb, eqb-true, eqb-false}
-use Rattle.machine.specs.Range.{every, total, matching, occurrences, everyOf, lastOf}
-use Rattle.machine.specs.Words.{isCell}
-use Rattle.machine.specs.Table.{left, right, rootCount, cellCount, state, capacity, firstFree, lastFree, wordAt, inUse, isFree}
 use Rattle.machine.specs.Audit.{freeChain, laidOut, metOnce, chainSound}
 use Rattle.machine.specs.Facts.{Linked, Chain}
-use Rattle.machine.proofs.Range.{tested, not-both, lt-or-ge, and-both, and-first, and-second, every-at, total-same, total-lt, matching-same, matching-other, occurrences-append}
-use Rattle.machine.proofs.Words.{cell-place, cell-number, place-cell}
-use Rattle.machine.proofs.Table.{free-not-in-use}
+use Rattle.machine.specs.Range.{every, total, matching, occurrences, everyOf, lastOf}
+use Rattle.machine.specs.Table.{left, right, rootCount, cellCount, state, capacity, firstFree, lastFree, wordAt, inUse, isFree}
+use Rattle.machine.specs.Words.{isCell}
 use Rattle.machine.proofs.Chain.{linked-places, total-occurrences, laid-wiped, chain-is}
-use Rattle.audit.proofs.Tests.{refuted, and-no-second}
+use Rattle.machine.proofs.Range.{tested, not-both, lt-or-ge, and-both, and-first, and-second, every-at, total-same, total-lt, matching-same, matching-other, occurrences-append}
+use Rattle.machine.proofs.Table.{free-not-in-use}
+use Rattle.machine.proofs.Words.{cell-place, cell-number, place-cell}
 use Rattle.audit.specs.Chain.{freeOrUsed, freeLaidOut, freeBit, freeCells, isFreeCell}
+use Rattle.audit.proofs.Tests.{refuted, and-no-second}
 
 module _ (t : List ℕ) where
   -- places linked by their left words, from the number w to the number v

@@ -1,23 +1,22 @@
 -- S3: words and packets by the tests that the code makes.
 use mathlib.Core.Path.{_≡_, refl, sym, ap, _∙_}
-use mathlib.Core.Logic.{⊎-elim}
 use mathlib.Core.Bool.{Bool, true, false, _&&_, _||_}
 use mathlib.Core.List.{List, [], _∷_, _++_}
 use Prim.Native.Nat.{ℕ, zero, suc, _+_, _%_, _≤_, _<_}
 use native.Mathlib.Omega.{arith}
 use lib.Dec.{leb, eqb}
-use borrow.Author.Tests.{leb-true, le-leb, lt-leb, eqb-true, eq-eqb, ne-eqb}
+use borrow.Author.Tests.{le-leb, lt-leb, eqb-true, eq-eqb, ne-eqb}
 use Rattle.machine.specs.declared.Queue.{Queue}
-use Rattle.machine.specs.Range.{every, everyOf}
-use Rattle.machine.specs.Words.{isNil, isCell, isAtom, isLegal, ceiling}
-use Rattle.machine.specs.Table.{capacity}
-use Rattle.machine.specs.Queue.{Packet, slots, slot, packetsFrom, waiting}
-use Rattle.machine.specs.Packets.{Kind, reads, makes, replaces, raises, lowers, unknown, kindOf, namesOf, names}
-use Rattle.machine.specs.Questions.{numberInRange}
 use Rattle.machine.specs.Audit.{fieldSound, isZeroPacket, wordsOfKind, packetLegal, namesInUse, packetsLegal}
-use Rattle.machine.proofs.Range.{and-first, and-second, or-left, or-right, and-both}
-use Rattle.machine.proofs.Words.{cell-number}
+use Rattle.machine.specs.Packets.{Kind, kindOf, namesOf, names}
+use Rattle.machine.specs.Questions.{numberInRange}
+use Rattle.machine.specs.Queue.{Packet, slots, slot, packetsFrom, waiting}
+use Rattle.machine.specs.Range.{every, everyOf}
+use Rattle.machine.specs.Table.{capacity}
+use Rattle.machine.specs.Words.{isNil, isCell, isAtom, isLegal, ceiling}
+use Rattle.machine.proofs.Range.{and-first, and-second, or-right, and-both}
 use Rattle.machine.proofs.Ring.{packets-snoc}
+use Rattle.machine.proofs.Words.{cell-number}
 use Rattle.audit.specs.Packets.{packetOn, packetSound}
 use Rattle.audit.proofs.Tests.{refuted, and-no-first, and-no-second}
 

@@ -3,9 +3,9 @@ use mathlib.Core.Bool.{Bool, _&&_, _||_}
 use mathlib.Core.List.{List}
 use Prim.Native.Nat.{ℕ}
 use lib.Dec.{leb}
-use Rattle.machine.specs.Words.{ceiling}
-use Rattle.machine.specs.Table.{rootCount, cellCount, state, wordAt, isFree}
 use Rattle.machine.specs.Audit.{fieldSound}
+use Rattle.machine.specs.Table.{rootCount, cellCount, state, wordAt, isFree}
+use Rattle.machine.specs.Words.{ceiling}
 
 unfoldable pub countsSound : List ℕ → ℕ → Bool
 countsSound t i = leb (wordAt t i state) 1 && leb (wordAt t i rootCount) ceiling && leb (wordAt t i cellCount) ceiling

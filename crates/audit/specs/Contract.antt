@@ -3,15 +3,15 @@ use mathlib.Core.Path.{_≡_}
 use mathlib.Core.List.{List}
 use Prim.Native.Nat.{ℕ, _≤_, _<_}
 use lib.ListN.{length, drop}
-use Rattle.machine.specs.declared.Queue.{Queue}
 use Rattle.machine.specs.declared.AuditAnswer.{AuditAnswer}
-use Rattle.machine.specs.Table.{capacity}
-use Rattle.machine.specs.Queue.{slots}
-use Rattle.machine.specs.Calls.{audit, store}
-use Rattle.machine.specs.Questions.{firstNo}
-use Rattle.machine.specs.Audit.{rules, auditReply}
+use Rattle.machine.specs.declared.Queue.{Queue}
 use Rattle.machine.specs.Answers.{auditAnswerReply}
+use Rattle.machine.specs.Audit.{rules, auditReply}
+use Rattle.machine.specs.Calls.{audit, store}
 use Rattle.machine.specs.Machine.{machine}
+use Rattle.machine.specs.Questions.{firstNo}
+use Rattle.machine.specs.Queue.{slots}
+use Rattle.machine.specs.Table.{capacity}
 use Rattle.audit.specs.Room.{Room}
 
 -- past questions 1 and 2

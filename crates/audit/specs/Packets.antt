@@ -4,12 +4,12 @@ use mathlib.Core.List.{List, [], _∷_, _++_}
 use Prim.Native.Nat.{ℕ, suc, pred, _+_, _%_}
 use lib.Dec.{leb}
 use Rattle.machine.specs.declared.Queue.{Queue}
-use Rattle.machine.specs.Range.{every}
-use Rattle.machine.specs.Words.{isCell, ceiling}
-use Rattle.machine.specs.Table.{rootCount, capacity, wordAt}
-use Rattle.machine.specs.Queue.{Packet, slots, slot, packetsFrom, waiting}
-use Rattle.machine.specs.Packets.{root, plus, minus, uses, waitingChange}
 use Rattle.machine.specs.Audit.{packetLegal, namesInUse, isZeroPacket, replays}
+use Rattle.machine.specs.Packets.{root, plus, minus, uses, waitingChange}
+use Rattle.machine.specs.Queue.{Packet, slots, slot, packetsFrom, waiting}
+use Rattle.machine.specs.Range.{every}
+use Rattle.machine.specs.Table.{rootCount, capacity, wordAt}
+use Rattle.machine.specs.Words.{isCell, ceiling}
 
 -- the packet that j older ones wait before, and those
 unfoldable pub packetOn : Queue → ℕ → Packet

@@ -2,8 +2,8 @@
 use mathlib.Core.List.{List}
 use Prim.Native.Nat.{ℕ, _≤_}
 use lib.ListN.{length}
-use Rattle.machine.specs.Words.{mostCells}
 use Rattle.machine.specs.Table.{capacity, firstFree, lastFree, tableLength}
+use Rattle.machine.specs.Words.{mostCells}
 
 pub record Room (t : List ℕ) : Type 0 where
   pub some : 1 ≤ capacity t

@@ -6,16 +6,16 @@ use Prim.Native.Nat.{ℕ, suc, pred, _+_, _-_, _≤_, _<_}
 use lib.Dec.{leb, eqb}
 use lib.ListN.{length, getD, drop}
 use Rattle.machine.specs.declared.Queue.{Queue}
-use Rattle.machine.specs.Range.{every, matching}
-use Rattle.machine.specs.Words.{isCell, ceiling}
-use Rattle.machine.specs.Table.{cellCount, capacity, wordAt, inUse}
-use Rattle.machine.specs.Queue.{Packet, packetsFrom, slots, waiting}
-use Rattle.machine.specs.Packets.{Kind, reads, makes, replaces, raises, lowers, unknown, kindOf}
-use Rattle.machine.specs.Counts.{pointers, pointersFrom}
-use Rattle.machine.specs.Questions.{pointersWithin}
 use Rattle.machine.specs.Audit.{packetsLegal, undoableOf, undoneOf, undoable, before, undoes}
-use Rattle.audit.specs.Room.{Room}
+use Rattle.machine.specs.Counts.{pointers, pointersFrom}
+use Rattle.machine.specs.Packets.{Kind, reads, makes, replaces, raises, lowers, unknown, kindOf}
+use Rattle.machine.specs.Questions.{pointersWithin}
+use Rattle.machine.specs.Queue.{Packet, packetsFrom, slots, waiting}
+use Rattle.machine.specs.Range.{matching}
+use Rattle.machine.specs.Table.{cellCount, capacity, wordAt, inUse}
+use Rattle.machine.specs.Words.{isCell, ceiling}
 use Rattle.audit.specs.Packets.{packetOn}
+use Rattle.audit.specs.Room.{Room}
 
 -- the waiting packets that j older ones wait before
 unfoldable pub newer : Queue → ℕ → List Packet

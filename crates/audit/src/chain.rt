@@ -108,7 +108,7 @@ fn chain_walks(table: &[u16], free: usize) -> bool
     last == cells::last_free(table)
 }
 
-pub fn chain_sound(table: &[u16]) -> bool
+pub(crate) fn chain_sound(table: &[u16]) -> bool
     requires { ⌜ Room (now table) ⌝ }
     ensures { λ r. ⌜ r ≡ chainSound (now (table .entry)) ⌝ }
 {

@@ -9,7 +9,7 @@ ghost use Rattle.audit.specs.Room.{Room};
 ghost use Rattle.audit.specs.Cells.{countsSound, fieldHolds};
 
 // A word is nil, an atom or a cell in use.
-pub fn field_sound(table: &[u16], w: u16) -> bool
+pub(crate) fn field_sound(table: &[u16], w: u16) -> bool
     requires { ⌜ Room (now table) ⌝ }
     ensures { λ r. ⌜ r ≡ fieldSound (now (table .entry)) w ⌝ }
 {
@@ -49,7 +49,7 @@ fn field_holds(table: &[u16], place: usize, k: usize) -> bool
 }
 
 // Stops at the first cell field that breaks the rule.
-pub fn cells_sound(table: &[u16]) -> bool
+pub(crate) fn cells_sound(table: &[u16]) -> bool
     requires { ⌜ Room (now table) ⌝ }
     ensures { λ r. ⌜ r ≡ cellsSound (now (table .entry)) ⌝ }
 {

@@ -1,10 +1,15 @@
 // The audit: of any store at all, sound or the lowest-numbered rule broken. A module for each rule; each is exact where the rules before it hold,
 // which are asked first.
 mod chain;
+mod counts;
+mod earlier;
 mod fields;
+mod legality;
 mod live;
 mod packets;
 mod pointers;
+mod replay;
+mod slots;
 
 use chain::chain_sound;
 use collector::marks::clear;

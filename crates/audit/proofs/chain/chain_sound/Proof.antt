@@ -1,4 +1,4 @@
-use mathlib.Core.Path.{sym, _∙_}
+use mathlib.Core.Path.{sym}
 use borrow.Author.Needs.{needs}
 use Rattle.audit.proofs.Tests.{failed, passed}
 use Rattle.audit.proofs.Walk.{laid-needed}

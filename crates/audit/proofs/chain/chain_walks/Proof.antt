@@ -1,15 +1,13 @@
-use mathlib.Core.Path.{ap}
-use mathlib.Core.Path.{_≡_, sym, _∙_}
+use mathlib.Core.Path.{ap, _≡_, sym, _∙_}
 use mathlib.Core.List.{List, []}
 use Prim.Native.Nat.{ℕ, _-_, _≤_}
 use native.Mathlib.Omega.{arith}
 use lib.Dec.{eqb}
 use borrow.Author.Needs.{needs}
-use Rattle.audit.specs.Chain.{freeCells}
 use Rattle.machine.proofs.Range.{not-both}
-use Rattle.audit.proofs.Walk.{walk-ends}
+use Rattle.audit.specs.Chain.{freeCells}
 use Rattle.audit.proofs.Tests.{refuted, passed, failed}
-use Rattle.audit.proofs.Walk.{Walked, walked-none, walked-more, free-cell, walk-next, walk-stops, walk-meets}
+use Rattle.audit.proofs.Walk.{walk-ends, Walked, walked-none, walked-more, free-cell, walk-next, walk-stops}
 use Rattle.audit.proofs.chain.chain_walks.Statement.{statement}
 use Rattle.audit.proofs.chain.chain_walks.Tie as tie
 
@@ -56,7 +54,8 @@ last-free-requires : tie.Need-last-free-requires Inv-loop μ-loop
 last-free-requires c κs = search needs
 
 returns-3 : tie.Need-returns-3 Inv-loop μ-loop
-returns-3 c = let t = c .before .before .before .before .before .before .args .table .now in
+returns-3 c =
+    let t = c .before .before .before .before .before .before .args .table .now in
     let l = c .before .before .before .loop in
     let e : l .steps ≡ freeCells t = omega arith in
     ap (eqb (l .last)) (c .last-free .ensures) ∙ walk-ends t (l .w) (l .last) (l .inv .1) (rw e at (l .inv .2)) (c .before .if2 .left) (c .before .before .before .before .before .before .pre .1)

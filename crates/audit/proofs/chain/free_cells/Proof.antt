@@ -1,12 +1,12 @@
-use mathlib.Core.Path.{_≡_, sym, _∙_}
+use mathlib.Core.Path.{_≡_}
 use Prim.Native.Nat.{_-_, _≤_}
 use native.Mathlib.Omega.{arith}
 use borrow.Author.Needs.{needs}
-use Rattle.machine.specs.Table.{capacity}
 use Rattle.machine.specs.Range.{total}
+use Rattle.machine.specs.Table.{capacity}
 use Rattle.audit.specs.Chain.{freeBit, freeCells}
-use Rattle.audit.proofs.Walk.{bit-most}
 use Rattle.audit.proofs.Tests.{total-none, total-more}
+use Rattle.audit.proofs.Walk.{bit-most}
 use Rattle.audit.proofs.chain.free_cells.Statement.{statement}
 use Rattle.audit.proofs.chain.free_cells.Tie as tie
 
@@ -38,14 +38,16 @@ loop-less : tie.Need-loop-less Inv-loop μ-loop
 loop-less c = search needs
 
 loop-again : tie.Need-loop-again Inv-loop μ-loop
-loop-again c = let t = c .before .before .before .before .before .args .table .now in
+loop-again c =
+    let t = c .before .before .before .before .before .args .table .now in
     let i = c .before .before .loop .place in
     let b = bit-most t i in
     (omega arith, omega arith, omega (arith, total-more i (freeBit t)))
 
 returns : tie.Need-returns Inv-loop μ-loop
 unfolding freeCells
-returns c = let e : c .before .loop .place ≡ capacity (c .before .before .before .before .args .table .now) = omega arith in
+returns c =
+    let e : c .before .loop .place ≡ capacity (c .before .before .before .before .args .table .now) = omega arith in
     rw e at (c .before .loop .inv .2)
 
 pub free-cells-spec : {M : Type 1} → statement M

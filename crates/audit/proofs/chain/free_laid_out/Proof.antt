@@ -1,10 +1,10 @@
-use mathlib.Core.Path.{_≡_, sym, _∙_}
+use mathlib.Core.Path.{_≡_, sym}
 use mathlib.Core.Bool.{true}
 use Prim.Native.Nat.{_-_, _≤_}
 use native.Mathlib.Omega.{arith}
 use borrow.Author.Needs.{needs}
-use Rattle.machine.specs.Table.{capacity}
 use Rattle.machine.specs.Range.{every}
+use Rattle.machine.specs.Table.{capacity}
 use Rattle.audit.specs.Chain.{freeOrUsed, freeLaidOut}
 use Rattle.audit.proofs.Tests.{passed, failed, every-none, every-more, every-fails}
 use Rattle.audit.proofs.chain.free_laid_out.Statement.{statement}
@@ -43,7 +43,8 @@ loop-again c = (omega arith, every-more _ _ (c .before .before .before .loop .in
 
 returns-2 : tie.Need-returns-2 Inv-loop μ-loop
 unfolding freeLaidOut
-returns-2 c = let e : c .before .loop .place ≡ capacity (c .before .before .before .before .args .table .now) = omega arith in
+returns-2 c =
+    let e : c .before .loop .place ≡ capacity (c .before .before .before .before .args .table .now) = omega arith in
     sym (rw e at (c .before .loop .inv .1))
 
 pub free-laid-out-spec : {M : Type 1} → statement M

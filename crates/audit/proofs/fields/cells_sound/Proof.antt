@@ -5,10 +5,10 @@ use Prim.Native.Nat.{ℕ, _-_, _≤_, _<_}
 use native.Mathlib.Omega.{arith}
 use borrow.Author.Tests.{eq-eqb, ne-eqb}
 use borrow.Author.Needs.{needs}
+use Rattle.machine.specs.Audit.{cellSound, cellsSound}
+use Rattle.machine.specs.Range.{every}
 use Rattle.machine.specs.Table.{capacity}
 use Rattle.machine.proofs.Range.{every-at}
-use Rattle.machine.specs.Range.{every}
-use Rattle.machine.specs.Audit.{cellSound, cellsSound}
 use Rattle.audit.specs.Cells.{fieldHolds}
 use Rattle.audit.proofs.Cells.{cell-parts, counts-break, field-break}
 use Rattle.audit.proofs.Tests.{passed, failed, every-none, every-more}

@@ -18,7 +18,8 @@ same-length : tie.Need-same-length
 same-length c = search needs
 
 returns : tie.Need-returns
-returns c = let i = c .before .before .before .before .before .before .before .before .before .args in
+returns c =
+    let i = c .before .before .before .before .before .before .before .before .before .args in
     let m = c .before .before .before .before .mark .ensures in
     record { answer = c .used-marked .ensures ∙ marked-live (i .table .now) (waiting (i .queue)) _ (m .marks); past = m .past }
 

@@ -41,7 +41,8 @@ loop-again : tie.Need-loop-again Inv-loop μ-loop
 loop-again c = (omega arith, every-more _ _ (c .before .before .before .loop .inv .1) (passed (c .before .free-or-marked .ensures) (c .if1 .left)))
 
 returns-2 : tie.Need-returns-2 Inv-loop μ-loop
-returns-2 c = let e : c .before .loop .place ≡ capacity (c .before .before .before .before .before .args .table .now) = omega arith in
+returns-2 c =
+    let e : c .before .loop .place ≡ capacity (c .before .before .before .before .before .args .table .now) = omega arith in
     sym (rw e at (c .before .loop .inv .1))
 
 pub used-marked-spec : {M : Type 1} → statement M

@@ -18,7 +18,8 @@ packets-legal-requires c κs = search needs
 
 returns-2 : tie.Need-returns-2
 unfolding packetsSound replaysAll
-returns-2 c = let i = c .before .before .before .before .before .args in
+returns-2 c =
+    let i = c .before .before .before .before .before .args in
     sym (second-fails (otherSlotsZero (i .queue)) (replaysAll (i .table .now) (i .queue)) (failed (c .before .packets-legal .ensures) (c .if2 .taken)))
 
 packets-replay-requires : tie.Need-packets-replay-requires

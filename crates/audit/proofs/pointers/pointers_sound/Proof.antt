@@ -1,7 +1,7 @@
 use mathlib.Core.Path.{sym, _∙_}
 use borrow.Author.Needs.{needs}
+use Rattle.audit.proofs.History.{start-past, start-broken, undo-start}
 use Rattle.audit.proofs.Tests.{passed, failed}
-use Rattle.audit.proofs.Undone.{start-past, start-broken, undo-start}
 use Rattle.audit.proofs.pointers.pointers_sound.Statement.{statement}
 use Rattle.audit.proofs.pointers.pointers_sound.Tie as tie
 
@@ -18,7 +18,8 @@ same-length : tie.Need-same-length
 same-length c = search needs
 
 returns : tie.Need-returns
-returns c = let i = c .before .before .before .before .before .before .before .before .before .before .args in
+returns c =
+    let i = c .before .before .before .before .before .before .before .before .before .before .args in
     let e = c .before .before .before .before .before .before .before .capacity-of .ensures in
     let h = c .before .before .before .before .before .count-pointers .ensures in
     record {
@@ -27,7 +28,8 @@ returns c = let i = c .before .before .before .before .before .before .before .b
     }
 
 undo-all-requires : tie.Need-undo-all-requires
-undo-all-requires c κs = let i = c .before .before .before .before .before .before .before .before .before .before .before .args in
+undo-all-requires c κs =
+    let i = c .before .before .before .before .before .before .before .before .before .before .before .args in
     let e = c .before .before .before .before .before .before .before .before .capacity-of .ensures in
     let h = c .before .before .before .before .before .before .count-pointers .ensures in
     undo-start (i .table .now) (i .queue) _ (i .scratch .now) _ e h (passed (c .before .before .all-within .ensures) (c .before .if1 .left)) (c .before .before .before .before .before .before .before .before .before .before .before .pre) (c .before .before .before .before .before .before .count-pointers .kept .1 .0)
@@ -36,7 +38,8 @@ same-length-2 : tie.Need-same-length-2
 same-length-2 c = search needs
 
 returns-2 : tie.Need-returns-2
-returns-2 c = let i = c .before .before .before .before .before .before .before .before .before .before .before .before .before .before .args in
+returns-2 c =
+    let i = c .before .before .before .before .before .before .before .before .before .before .before .before .before .before .args in
     let e = c .before .before .before .before .before .before .before .before .before .before .before .capacity-of .ensures in
     let h = c .before .before .before .before .before .before .before .before .before .count-pointers .ensures in
     record {

@@ -3,7 +3,7 @@ use native.Mathlib.Omega.{arith}
 use borrow.Author.Tests.{not-true, not-false}
 use borrow.Author.Needs.{needs}
 use Rattle.audit.specs.Stages.{Undoing}
-use Rattle.audit.proofs.Undone.{undo-next, undo-more, undo-broken, undo-done}
+use Rattle.audit.proofs.History.{undo-next, undo-more, undo-broken, undo-done}
 use Rattle.audit.proofs.pointers.undo_all.Statement.{statement}
 use Rattle.audit.proofs.pointers.undo_all.Tie as tie
 
@@ -26,7 +26,8 @@ same-length : tie.Need-same-length Inv-loop μ-loop
 same-length c = c .before .before .before .undo .kept .1 .1 .1 .0 ∙ c .before .before .before .before .before .before .loop .inv .same
 
 returns : tie.Need-returns Inv-loop μ-loop
-returns c = let i = c .before .before .before .before .before .before .before .before .before .args in
+returns c =
+    let i = c .before .before .before .before .before .before .before .before .before .args in
     let l = c .before .before .before .before .before .before .loop in
     record {
       answer = sym (undo-broken (i .table .now) (i .queue) (l .j) (l .scratch) _ _ (l .inv .some) (omega arith) (c .before .before .before .undo .ensures) (not-true _ (c .if1 .taken)));
@@ -40,7 +41,8 @@ loop-less : tie.Need-loop-less Inv-loop μ-loop
 loop-less c = search needs
 
 loop-again : tie.Need-loop-again Inv-loop μ-loop
-loop-again c = let i = c .before .before .before .before .before .before .before .before .before .args in
+loop-again c =
+    let i = c .before .before .before .before .before .before .before .before .before .args in
     let l = c .before .before .before .before .before .before .loop in
     undo-more (i .table .now) (i .queue) (l .j) (i .scratch .now) (l .scratch) _ _ (l .inv) (omega arith) (c .before .before .before .undo .ensures) (not-false _ (c .if1 .left)) (c .before .before .before .undo .kept .1 .1 .1 .0)
 
@@ -51,7 +53,8 @@ same-length-2 : tie.Need-same-length-2 Inv-loop μ-loop
 same-length-2 c = c .before .before .before .loop .inv .same
 
 returns-2 : tie.Need-returns-2 Inv-loop μ-loop
-returns-2 c = let i = c .before .before .before .before .before .before .args in
+returns-2 c =
+    let i = c .before .before .before .before .before .before .args in
     let l = c .before .before .before .loop in
     record { answer = c .counts-match .ensures ∙ undo-done (i .table .now) (i .queue) (l .j) (i .scratch .now) (l .scratch) (l .inv) (omega arith); past = l .inv .past }
 

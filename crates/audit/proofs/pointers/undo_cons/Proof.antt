@@ -16,7 +16,8 @@ stage-field-requires : tie.Need-stage-field-requires
 stage-field-requires c κs = search needs
 
 returns : tie.Need-returns
-returns c = let i = c .before .before .before .before .args in
+returns c =
+    let i = c .before .before .before .before .args in
     let h = c .before .before .before .before .pre in
     cons-no-left (i .table .now) (i .queue) (i .j) (i .scratch .now) (h .0) (i .cell) (h .1) (i .a) (i .b) _ 0 (c .before .stage-field .ensures) (c .if1 .taken)
 
@@ -27,7 +28,8 @@ stage-field-requires-2 : tie.Need-stage-field-requires-2
 stage-field-requires-2 c κs = search needs
 
 returns-2 : tie.Need-returns-2
-returns-2 c = let i = c .before .before .before .before .before .before .args in
+returns-2 c =
+    let i = c .before .before .before .before .before .before .args in
     let h = c .before .before .before .before .before .before .pre in
     cons-no-right (i .table .now) (i .queue) (i .j) (i .scratch .now) (h .0) (i .cell) (h .1) (i .a) (i .b) _ _ (c .before .before .before .stage-field .ensures) (c .before .stage-field2 .ensures) (c .if2 .taken)
 
@@ -44,7 +46,8 @@ same-length : tie.Need-same-length
 same-length c = search needs
 
 returns-3 : tie.Need-returns-3
-returns-3 c = let i = c .before .before .before .before .before .before .before .before .before .before .before .before .before .before .before .args in
+returns-3 c =
+    let i = c .before .before .before .before .before .before .before .before .before .before .before .before .before .before .before .args in
     let h = c .before .before .before .before .before .before .before .before .before .before .before .before .before .before .before .pre in
     cons-yes (i .table .now) (i .queue) (i .j) (i .scratch .now) (h .0) (i .cell) (h .1) (i .a) (i .b) _ _ (c .before .before .before .before .before .before .before .before .before .before .before .before .stage-field .ensures) (c .before .before .before .before .before .before .before .before .before .before .stage-field2 .ensures) _ _ _ (c .before .before .before .before .before .before .before .before .capacity-of .ensures) (c .before .before .before .before .before .before .before .before .before .before .before .if1 .left) (c .before .before .before .before .before .before .before .before .before .if2 .left) (c .before .before .before .before .before .before .lower .ensures) (c .before .before .lower2 .ensures)
 

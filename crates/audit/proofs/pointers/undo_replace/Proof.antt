@@ -1,8 +1,6 @@
-use mathlib.Core.Path.{_≡_, _∙_}
 use native.Mathlib.Omega.{arith}
 use borrow.Author.Needs.{needs}
-use Rattle.audit.proofs.Undone.{undo-below}
-use Rattle.audit.proofs.Undone.{replace-no, replace-yes}
+use Rattle.audit.proofs.Undone.{undo-below, replace-no, replace-yes}
 use Rattle.audit.proofs.pointers.undo_replace.Statement.{statement}
 use Rattle.audit.proofs.pointers.undo_replace.Tie as tie
 
@@ -19,7 +17,8 @@ stage-field-requires : tie.Need-stage-field-requires
 stage-field-requires c κs = search needs
 
 returns : tie.Need-returns
-returns c = let i = c .before .before .before .before .args in
+returns c =
+    let i = c .before .before .before .before .args in
     let h = c .before .before .before .before .pre in
     replace-no (i .table .now) (i .queue) (i .j) (i .scratch .now) (h .0) (i .cell) (h .1) (i .k) (i .a) (i .b) _ (h .2) (c .before .stage-field .ensures) (c .if1 .taken)
 
@@ -27,7 +26,8 @@ capacity-of-requires : tie.Need-capacity-of-requires
 capacity-of-requires c κs = search needs
 
 raise-requires : tie.Need-raise-requires
-raise-requires c κs = let i = c .before .before .before .before .before .before .args in
+raise-requires c κs =
+    let i = c .before .before .before .before .before .before .args in
     let h = c .before .before .before .before .before .before .pre .0 in
     (omega (arith, h .able .enough), undo-below (i .table .now) (i .queue) (i .j) (i .scratch .now) h _ (c .before .capacity-of .ensures))
 
@@ -41,7 +41,8 @@ same-length : tie.Need-same-length
 same-length c = search needs
 
 returns-2 : tie.Need-returns-2
-returns-2 c = let i = c .before .before .before .before .before .before .before .before .before .before .before .before .before .before .before .args in
+returns-2 c =
+    let i = c .before .before .before .before .before .before .before .before .before .before .before .before .before .before .before .args in
     let h = c .before .before .before .before .before .before .before .before .before .before .before .before .before .before .before .pre in
     replace-yes (i .table .now) (i .queue) (i .j) (i .scratch .now) (h .0) (i .cell) (h .1) (i .k) (i .a) (i .b) _ (h .2) (c .before .before .before .before .before .before .before .before .before .before .before .before .stage-field .ensures) _ _ _ _ (c .before .before .before .before .before .before .before .before .before .before .capacity-of .ensures) (c .before .before .before .before .before .before .before .before .before .before .before .if1 .left) (c .before .before .before .before .before .before .before .before .raise .ensures) (c .before .before .before .before .lower .ensures) (c .word-within .ensures)
 
