@@ -1,0 +1,7 @@
+-- What the session program writes for an input.
+pub mod Bytes
+pub mod Requests
+pub mod Texts
+pub mod Put
+pub mod Listing
+pub mod Known
