@@ -3,3 +3,4 @@ pub mod ByteLaws
 pub mod PutLaws
 pub mod WordLaws
 pub mod RequestLaws
+pub mod ServeLaws

@@ -4,4 +4,6 @@ pub mod Requests
 pub mod Texts
 pub mod Put
 pub mod Listing
+pub mod Serving
+pub mod Progress
 pub mod Known
