@@ -4,3 +4,6 @@ pub mod PutLaws
 pub mod WordLaws
 pub mod RequestLaws
 pub mod ServeLaws
+pub mod KeepLaws
+pub mod LineLaws
+pub mod TurnLaws

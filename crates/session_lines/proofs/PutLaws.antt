@@ -12,7 +12,7 @@ use lib.Seq.{take-all, take-suc, take-suc-set}
 use borrow.Author.Tests.{lt-ltb, le-ltb, ltb-true, ltb-false}
 use Rattle.session_lines.specs.declared.Verdict
 use Rattle.session_lines.specs.declared.Verdict.{Verdict}
-use Rattle.session_lines.specs.Texts.{digits, verdictText}
+use Rattle.session_lines.specs.Texts.{digits, verdictText, outputLine}
 use Rattle.session_lines.specs.Put.{Put}
 
 -- two texts are one
@@ -85,3 +85,8 @@ verdict-length (Verdict.Ok v) = omega (arith, digits-length 20 v)
 verdict-length (Verdict.No n) = omega (arith, digits-length 20 n)
 verdict-length Verdict.Idle = omega arith
 verdict-length Verdict.Bad = omega arith
+
+pub output-length : (n : ℕ) (v : Verdict) → length (outputLine n v) ≤ 45
+unfolding outputLine
+output-length n v =
+    simp length-append (omega (arith, digits-length 20 n, verdict-length v))
