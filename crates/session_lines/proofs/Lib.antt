@@ -7,3 +7,5 @@ pub mod ServeLaws
 pub mod KeepLaws
 pub mod LineLaws
 pub mod TurnLaws
+pub mod FeedLaws
+pub mod Theorem

@@ -31,8 +31,8 @@ line-tells line lines s request v s′ number er h en = record {
   good = λ g. h g .good;
   counted = en .0;
   listing = λ g b rest.
-    let e = h g in
-    rw (e .verdict, e .after, er, en .1 b, add-one lines);
+      let e = h g in
+      rw (e .verdict, e .after, er, en .1 b, add-one lines);
 }
 
 pub line-put : (line : List ℕ) (lines : ℕ) (s : Store) (out : List ℕ) (at number : ℕ) (v : Verdict) (s′ : Store) (end : ℕ) (new : List ℕ)
@@ -64,13 +64,13 @@ module _ (s : Session) (t scratch input : List ℕ) (feed : ℕ) (new : List ℕ
     good = λ g. g;
     counted = omega arith;
     listing = λ g b rest.
-      let whole : take feed input ≡ input = take-all feed input (omega arith) in
-      ap (listed (s .lines) (store t (s .queue) scratch)) (
+        let whole : take feed input ≡ input = take-all feed input (omega arith) in
+        ap (listed (s .lines) (store t (s .queue) scratch)) (
         ap (λ (x : List ℕ). onto (begunLine s) (linesOf (x ++ rest))) whole
         ∙ lines-joined (begunLine s) input rest (sym found ∙ all)
         ∙ ap (λ (x : List ℕ). onto (begunLine s ++ x) (linesOf rest)) (sym whole))
-      ∙ listed-capped (s .lines) (store t (s .queue) scratch) (begunLine s ++ take feed input) (linesOf rest)
-      ∙ ap (λ (x : List ℕ). listed (s .lines) (store t (s .queue) scratch) (onto x (linesOf rest))) (sym front);
+        ∙ listed-capped (s .lines) (store t (s .queue) scratch) (begunLine s ++ take feed input) (linesOf rest)
+        ∙ ap (λ (x : List ℕ). listed (s .lines) (store t (s .queue) scratch) (onto x (linesOf rest))) (sym front);
   }
 
   -- with one the line is whole
@@ -79,20 +79,20 @@ module _ (s : Session) (t scratch input : List ℕ) (feed : ℕ) (new : List ℕ
       → Tells s t scratch (take (feed + 1) input) text (session new 0 lines queue) t′ scratch′
   unfolding ahead
   ended-tells some text lines t′ queue scratch′ told =
-    let size : length (take (feed + 1) input) ≡ feed + 1 = length-take-le (feed + 1) input (omega arith) in
-    record {
-      good = told .good;
-      counted = omega (arith, told .counted);
-      listing = λ g b rest.
-        let st = store t (s .queue) scratch in
-        let ended : linesOf (take (feed + 1) input ++ rest) ≡ take feed input ∷ linesOf rest =
-          rw (add-one feed, found) (lines-ended input rest (omega arith)) in
-        ap (λ (ls : List (List ℕ)). listed (s .lines) st (onto (begunLine s) ls)) ended
-        ∙ listed-same (s .lines) st (begunLine s ++ take feed input) (take held new) (linesOf rest)
-          (request-capped (begunLine s ++ take feed input) ∙ ap requestOf (sym front))
-        ∙ told .listing g (omega arith) (linesOf rest)
-        ∙ ap (λ (ls : List (List ℕ)). text ++ listed lines (store t′ queue scratch′) ls) (sym (onto-none (linesOf rest)));
-    }
+      let size : length (take (feed + 1) input) ≡ feed + 1 = length-take-le (feed + 1) input (omega arith) in
+      record {
+        good = told .good;
+        counted = omega (arith, told .counted);
+        listing = λ g b rest.
+            let st = store t (s .queue) scratch in
+            let ended : linesOf (take (feed + 1) input ++ rest) ≡ take feed input ∷ linesOf rest =
+            rw (add-one feed, found) (lines-ended input rest (omega arith)) in
+            ap (λ (ls : List (List ℕ)). listed (s .lines) st (onto (begunLine s) ls)) ended
+            ∙ listed-same (s .lines) st (begunLine s ++ take feed input) (take held new) (linesOf rest)
+            (request-capped (begunLine s ++ take feed input) ∙ ap requestOf (sym front))
+            ∙ told .listing g (omega arith) (linesOf rest)
+            ∙ ap (λ (ls : List (List ℕ)). text ++ listed lines (store t′ queue scratch′) ls) (sym (onto-none (linesOf rest)));
+      }
 
 -- one after the other
 pub tells-both : {s : Session} {t scratch x y : List ℕ} {s₁ : Session} {t₁ scratch₁ x₁ y₁ : List ℕ} {s₂ : Session} {t₂ scratch₂ : List ℕ}
@@ -101,10 +101,10 @@ tells-both {s} {t} {scratch} {x} {y} {s₁} {t₁} {scratch₁} {x₁} {y₁} {s
   good = λ g. b .good (a .good g);
   counted = omega (arith, a .counted, b .counted, length-append x x₁);
   listing = λ g l rest.
-    ap (ahead s t scratch) (append-assoc x x₁ rest)
-    ∙ a .listing g (omega (arith, length-append x x₁)) (x₁ ++ rest)
-    ∙ ap (λ (z : List ℕ). y ++ z) (b .listing (a .good g) (omega (arith, a .counted, length-append x x₁)) rest)
-    ∙ sym (append-assoc y y₁ (ahead s₂ t₂ scratch₂ rest));
+      ap (ahead s t scratch) (append-assoc x x₁ rest)
+      ∙ a .listing g (omega (arith, length-append x x₁)) (x₁ ++ rest)
+      ∙ ap (λ (z : List ℕ). y ++ z) (b .listing (a .good g) (omega (arith, a .counted, length-append x x₁)) rest)
+      ∙ sym (append-assoc y y₁ (ahead s₂ t₂ scratch₂ rest));
 }
 
 pub tells-none : (s : Session) (t scratch : List ℕ) → Tells s t scratch [] [] s t scratch

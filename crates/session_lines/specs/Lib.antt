@@ -6,4 +6,5 @@ pub mod Put
 pub mod Listing
 pub mod Serving
 pub mod Progress
+pub mod Whole
 pub mod Known

@@ -92,7 +92,13 @@ pub struct Fed {
 }
 
 // Takes the input as far as the buffer has room for one more output line.
-pub fn feed(session: Session, table: &mut [u16], scratch: &mut [u16], input: &[u8], out: &mut [u8]) -> Fed
+pub fn feed(
+    session: Session,
+    table: &mut [u16],
+    scratch: &mut [u16],
+    input: &[u8],
+    out: &mut [u8],
+) -> Fed
     ensures { λ r. ⌜ Feeds session (now (table .entry)) (now (scratch .entry)) (now (input .entry)) (r .session) (r .taken) (r .written) (now (table .exit)) (now (scratch .exit)) (now (out .exit)) ⌝ }
 {
     let mut present = session;

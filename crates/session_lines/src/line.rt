@@ -48,7 +48,15 @@ fn next_number(lines: u64) -> u64
     lines
 }
 
-pub fn serve_line(line: &[u8], lines: u64, queue: Queue, table: &mut [u16], scratch: &mut [u16], out: &mut [u8], at: usize) -> Lined
+pub fn serve_line(
+    line: &[u8],
+    lines: u64,
+    queue: Queue,
+    table: &mut [u16],
+    scratch: &mut [u16],
+    out: &mut [u8],
+    at: usize,
+) -> Lined
     requires { ⌜ at + 45 ≤ length (now out) ⌝ }
     ensures { λ r. ⌜ Lines (now (line .entry)) lines (store (now (table .entry)) queue (now (scratch .entry))) (now (out .entry)) at (r .lines) (store (now (table .exit)) (r .queue) (now (scratch .exit))) (r .end) (now (out .exit)) ⌝ }
 {

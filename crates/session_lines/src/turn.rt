@@ -9,7 +9,14 @@ ghost use lib.ListN.{length};
 ghost use Rattle.session_lines.specs.Progress.{Turns};
 
 // The input up to its first line feed joins the line, and with the line feed the line is served.
-pub fn turn(session: Session, table: &mut [u16], scratch: &mut [u16], input: &[u8], out: &mut [u8], at: usize) -> Turned
+pub fn turn(
+    session: Session,
+    table: &mut [u16],
+    scratch: &mut [u16],
+    input: &[u8],
+    out: &mut [u8],
+    at: usize,
+) -> Turned
     requires { ⌜ at + 45 ≤ length (now out) ⌝ }
     ensures { λ r. ⌜ Turns session (now (table .entry)) (now (scratch .entry)) (now (input .entry)) (now (out .entry)) at (r .session) (r .taken) (r .end) (now (table .exit)) (now (scratch .exit)) (now (out .exit)) ⌝ }
 {

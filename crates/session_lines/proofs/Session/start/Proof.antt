@@ -1,17 +1,16 @@
+use mathlib.Core.Path.{ap}
+use lib.ListN.{replicate}
 use borrow.Author.Needs.{needs}
+use Rattle.session_lines.specs.declared.Session.{Session}
+use Rattle.machine.specs.declared.Queue.{Queue}
 use Rattle.session_lines.proofs.Session.start.Statement.{statement}
 use Rattle.session_lines.proofs.Session.start.Tie as tie
-use Rattle.session_lines.proofs.Session.start.Reads as reads
-use Rattle.session_lines.proofs.Session.start.Lts as lts
-use Rattle.machine.proofs.Queue.empty.Reads as empty-reads
 
--- src/lib.rt:68:20
 empty-requires : tie.Need-empty-requires
 empty-requires c κs = search needs
 
--- src/lib.rt:61:5
 returns : tie.Need-returns
-returns c = ?
+returns c = ap (λ (q : Queue). record { line = replicate 81 0; held = 0; lines = 0; queue = q }) (c .empty .ensures)
 
 pub start-spec : {M : Type 1} → statement M
 start-spec = tie.close (tie.spec empty-requires returns)

@@ -1,20 +1,14 @@
-use Rattle.session_lines.proofs.TurnLaws.{joined-tells, ended-tells}
-use Rattle.session_lines.proofs.PutLaws.{put-none}
 use mathlib.Core.List.{[]}
+use mathlib.Core.Path.{_≡_, sym}
+use native.Mathlib.Omega.{arith}
 use lib.Seq.{length-take-le}
 use lib.ListN.{length}
-use native.Mathlib.Omega.{arith}
-use mathlib.Core.Path.{_≡_, sym}
 use borrow.Author.Needs.{needs}
+use Rattle.session_lines.proofs.TurnLaws.{joined-tells, ended-tells}
+use Rattle.session_lines.proofs.PutLaws.{put-none}
 use Rattle.session_lines.proofs.turn.turn.Statement.{statement}
 use Rattle.session_lines.proofs.turn.turn.Tie as tie
-use Rattle.session_lines.proofs.turn.turn.Reads as reads
-use Rattle.session_lines.proofs.turn.turn.Lts as lts
-use Rattle.session_lines.proofs.bytes.find.Reads as find-reads
-use Rattle.session_lines.proofs.line.keep.Reads as keep-reads
-use Rattle.session_lines.proofs.line.serve_line.Reads as serve-line-reads
 
--- src/turn.rt:16:9
 -- the field is an array of 81 bytes
 line-length : (c : tie.Start) → length (c .args .session .line) ≡ 81
 line-length c = search needs
@@ -22,17 +16,14 @@ line-length c = search needs
 find-requires : tie.Need-find-requires
 find-requires c κs = search needs
 
--- src/turn.rt:19:46
 slice-aggregate-keep : tie.Need-slice-aggregate-keep
 slice-aggregate-keep c = sym (length-take-le _ _ (c .before .before .before .before .find .ensures .1))
 
--- src/turn.rt:19:9
 keep-requires : tie.Need-keep-requires
 keep-requires c κs = search needs
 
--- src/turn.rt:21:9
 returns : tie.Need-returns
-returns c = let size : length (c .before .before .before .before .before .before .before .before .before .before .before .args .session .line) ≡ 81 = search needs in 
+returns c = let size : length (c .before .before .before .before .before .before .before .before .before .before .before .args .session .line) ≡ 81 = search needs in
     let f = c .before .before .before .before .before .before .find in
     record {
       some = λ h. omega (arith, c .if1 .taken);
@@ -43,35 +34,27 @@ returns c = let size : length (c .before .before .before .before .before .before
       tells = joined-tells (c .before .before .before .before .before .before .before .before .before .before .before .args .session) (c .before .before .before .before .before .before .before .before .before .before .before .args .table .now) (c .before .before .before .before .before .before .before .before .before .before .before .args .scratch .now) (c .before .before .before .before .before .before .before .before .before .before .before .args .input .now) (f .result) _ _ (f .ensures .0) (f .ensures .1) size (c .before .keep .ensures) (c .if1 .taken);
     }
 
--- src/turn.rt:32:28
 array-share-prefix-line : tie.Need-array-share-prefix-line
 array-share-prefix-line c = let size : length (c .before .before .before .before .before .before .before .before .before .before .before .args .session .line) ≡ 81 = search needs in omega (arith, c .before .keep .ensures .size, c .before .keep .ensures .most)
 
--- src/turn.rt:32:28
 slice-aggregate-serve-line : tie.Need-slice-aggregate-serve-line
 slice-aggregate-serve-line c = let size : length (c .before .before .before .before .before .before .before .before .before .before .before .before .args .session .line) ≡ 81 = search needs in sym (length-take-le _ _ (omega (arith, c .before .before .keep .ensures .size, c .before .before .keep .ensures .most)))
 
--- src/turn.rt:32:9
 serve-line-requires : tie.Need-serve-line-requires
 serve-line-requires c κs = search needs
 
--- src/turn.rt:41:16
 add-t16 : tie.Need-add-t16
 add-t16 c = omega (arith, c .before .before .before .before .before .before .before .before .before .before .before .before .before .before .before .before .before .before .find .ensures .1, c .before .before .before .before .before .before .before .before .before .before .before .before .if1 .left, c .before .before .before .before .before .before .before .before .before .before .before .before .before .before .before .before .before .before .before .before .before .before .before .good)
 
--- src/turn.rt:12:1
 same-length : tie.Need-same-length
 same-length c = search needs
 
--- src/turn.rt:12:1
 same-length-2 : tie.Need-same-length-2
 same-length-2 c = search needs
 
--- src/turn.rt:12:1
 same-length-3 : tie.Need-same-length-3
 same-length-3 c = search needs
 
--- src/turn.rt:12:1
 returns-2 : tie.Need-returns-2
 returns-2 c = let size = line-length (c .before .before .before .before .before .before .before .before .before .before .before .before .before .before .before .before .before .before .before .before .before .before .before) in
     let a = c .before .before .before .before .before .before .before .before .before .before .before .before .before .before .before .before .before .before .before .before .before .before .before .args in
