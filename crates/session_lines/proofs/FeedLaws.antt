@@ -10,7 +10,7 @@ use Rattle.session_lines.specs.declared.Session.{Session}
 use Rattle.session_lines.specs.Bytes.{split, linesOf}
 use Rattle.session_lines.specs.Listing.{listed}
 use Rattle.session_lines.specs.Progress.{keptBytes, room, lastLine, onto, begunLine, ahead, TellsLine, Lines, Tells, Turns, Finishes}
-use Rattle.session_lines.proofs.RequestLaws.{last-part}
+use Rattle.session_lines.proofs.RequestLaws.{last-part, last-part-length}
 use Rattle.session_lines.proofs.WordLaws.{append-none}
 use Rattle.session_lines.proofs.KeepLaws.{take-cap}
 use Rattle.session_lines.proofs.TurnLaws.{tells-both}
@@ -19,14 +19,11 @@ use Rattle.session_lines.proofs.TurnLaws.{tells-both}
 module _ (input out : List ℕ) (s₁ : Session) (t₁ scratch₁ : List ℕ) (taken written : ℕ)
     (s₂ : Session) (more end : ℕ) (t₂ scratch₂ new : List ℕ)
     (turned : Turns s₁ t₁ scratch₁ (take (length input - taken) (drop taken input)) out written s₂ more end t₂ scratch₂ new) where
-  rest-length : length (take (length input - taken) (drop taken input)) ≡ length input - taken
-  rest-length = ap length (last-part input taken) ∙ length-drop taken input
-
   pub more-most : taken < length input → taken + more ≤ length input
-  more-most h = omega (arith, turned .most, rest-length)
+  more-most h = omega (arith, turned .most, last-part-length input taken)
 
   pub more-some : taken < length input → 0 < more
-  more-some h = turned .some (omega (arith, rest-length))
+  more-some h = turned .some (omega (arith, last-part-length input taken))
 
   pub more-tells : {s : Session} {t scratch : List ℕ} → Tells s t scratch (take taken input) (take written out) s₁ t₁ scratch₁
       → Tells s t scratch (take (taken + more) input) (take end new) s₂ t₂ scratch₂

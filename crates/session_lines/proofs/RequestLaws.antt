@@ -147,6 +147,9 @@ alone s n e h l = rw (← line-short s l, words-one s n e h)
 pub last-part : (s : List ℕ) (n : ℕ) → take (length s - n) (drop n s) ≡ drop n s
 last-part s n = take-all (length s - n) (drop n s) (omega (arith, length-drop n s))
 
+pub last-part-length : (s : List ℕ) (n : ℕ) → length (take (length s - n) (drop n s)) ≡ length s - n
+last-part-length s n = ap length (last-part s n) ∙ length-drop n s
+
 pub more-words : (k s : List ℕ) (n : ℕ) → n ≡ before space s → n ≤ length s → (n ≡ length s → ⊥)
     → byWords (k ∷ take n s ∷ wordsOf (take (length s - (n + 1)) (drop (n + 1) s))) ≡ byWords (k ∷ wordsOf s)
 more-words k s n e h m = rw (last-part s (n + 1), words-more s n e h m)
