@@ -1,0 +1,65 @@
+-- The listing of an input: what the session program writes, as a definition on the list of the input's bytes.
+use mathlib.Core.List.{List, [], _∷_, _++_}
+use Prim.Native.Nat.{ℕ, suc}
+use lib.ListN.{replicate}
+use Rattle.machine.specs.Words.{mostCells}
+use Rattle.machine.specs.Table.{tableLength}
+use Rattle.machine.specs.Queue.{emptyQueue}
+use Rattle.machine.specs.Calls.{Call, fresh, row, step, RowCall, car, cdr, cons, setLeft, setRight, up, down}
+use Rattle.machine.specs.Calls.{Reply, value, refused, idle, applied, sound, broken, Store, store}
+use Rattle.machine.specs.Machine.{machine}
+use Rattle.session_lines.specs.declared.Request
+use Rattle.session_lines.specs.declared.Request.{Request}
+use Rattle.session_lines.specs.declared.Verdict
+use Rattle.session_lines.specs.declared.Verdict.{Verdict}
+use Rattle.session_lines.specs.Bytes.{linesOf}
+use Rattle.session_lines.specs.Requests.{requestOf}
+use Rattle.session_lines.specs.Texts.{outputLine}
+
+-- the value of a step is the cells freed; a session has no audits
+abbrev pub verdictOf : Reply → Verdict
+verdictOf (value v) = Verdict.Ok v
+verdictOf (refused n) = Verdict.No n
+verdictOf idle = Verdict.Idle
+verdictOf (applied kind freed) = Verdict.Ok freed
+verdictOf sound = Verdict.Ok 0
+verdictOf (broken n) = Verdict.No n
+
+-- a verdict, and the store afterwards
+pub record Served : Type 0 where
+  pub verdict : Verdict
+  pub after : Store
+
+unfoldable pub called : Store → Call → Served
+called s call = let o = machine s call in record { verdict = verdictOf (o .reply); after = o .after }
+
+abbrev pub served : Store → Request → Served
+served s (Request.Fresh c) = called s (fresh c)
+served s (Request.Car x) = called s (row (car x))
+served s (Request.Cdr x) = called s (row (cdr x))
+served s (Request.Cons x y) = called s (row (cons x y))
+served s (Request.SetLeft x y) = called s (row (setLeft x y))
+served s (Request.SetRight x y) = called s (row (setRight x y))
+served s (Request.Up x n) = called s (row (up x n))
+served s (Request.Down x n) = called s (row (down x n))
+served s Request.Step = called s step
+served s Request.Bad = record { verdict = Verdict.Bad; after = s }
+
+-- the output of these lines, after so many
+unfoldable pub listed : ℕ → Store → List (List ℕ) → List ℕ
+listed n s [] = []
+listed n s (line ∷ rest) =
+    let r = served s (requestOf line) in
+    outputLine (suc n) (r .verdict) ++ listed (suc n) (r .after) rest
+
+-- before a fresh the table is zero
+abbrev pub unmade : ℕ → Store
+unmade c = store (replicate (tableLength c) 0) emptyQueue (replicate c 0)
+
+-- with a table for c cells
+unfoldable pub listingWith : ℕ → List ℕ → List ℕ
+listingWith c input = listed 0 (unmade c) (linesOf input)
+
+-- the session's table is long enough for 4,096 cells
+unfoldable pub listing : List ℕ → List ℕ
+listing input = listingWith mostCells input

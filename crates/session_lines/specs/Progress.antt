@@ -1,0 +1,89 @@
+-- How far a session has come: what is still to be written follows from its state and the input to come.
+use mathlib.Core.Path.{_≡_}
+use mathlib.Core.List.{List, [], _∷_, _++_}
+use Prim.Native.Nat.{ℕ, suc, _+_, _^_, _≤_, _<_}
+use lib.ListN.{length, take, replicate}
+use Rattle.machine.specs.declared.Queue.{Queue}
+use Rattle.machine.specs.Queue.{emptyQueue}
+use Rattle.machine.specs.Calls.{Store, store}
+use Rattle.session_lines.specs.declared.Session.{Session}
+use Rattle.session_lines.specs.Bytes.{linesOf}
+use Rattle.session_lines.specs.Listing.{listed}
+use Rattle.session_lines.specs.Serving.{Good}
+use Rattle.session_lines.specs.Put.{Put}
+
+-- the bytes of a line that are kept: more than 80 tell that it is too long
+abbrev pub keptBytes : ℕ
+keptBytes = 81
+
+-- the most bytes of an output line
+abbrev pub room : ℕ
+room = 45
+
+-- a last line without its line feed, if it has a byte
+abbrev pub lastLine : List ℕ → List (List ℕ)
+lastLine [] = []
+lastLine (b ∷ bs) = (b ∷ bs) ∷ []
+
+-- the bytes of a line that has begun, in front of the lines that the rest gives
+abbrev pub onto : List ℕ → List (List ℕ) → List (List ℕ)
+onto begun [] = lastLine begun
+onto begun (l ∷ ls) = (begun ++ l) ∷ ls
+
+-- before any input
+abbrev pub started : Session
+started = record { line = replicate keptBytes 0; held = 0; lines = 0; queue = emptyQueue }
+
+abbrev pub begunLine : Session → List ℕ
+begunLine s = take (s .held) (s .line)
+
+-- the output still to come when this is the rest of the input
+unfoldable pub ahead : Session → List ℕ → List ℕ → List ℕ → List ℕ
+ahead s t scratch rest = listed (s .lines) (store t (s .queue) scratch) (onto (begunLine s) (linesOf rest))
+
+-- What is kept of a line is the front of all its bytes.
+pub record Keeps (line : List ℕ) (held : ℕ) (part new : List ℕ) (held′ : ℕ) : Type 0 where
+  pub most : held′ ≤ keptBytes
+  pub size : length new ≡ length line
+  pub front : length line ≡ keptBytes → take held′ new ≡ take keptBytes (take held line ++ part)
+
+-- A whole line after `lines` others gives the text, and the store afterwards is good; line numbers are below 2^64.
+pub record TellsLine (line : List ℕ) (lines : ℕ) (s : Store) (text : List ℕ) (lines′ : ℕ) (s′ : Store) : Type 0 where
+  pub good : Good (s .table) (s .queue) → Good (s′ .table) (s′ .queue)
+  pub counted : lines′ ≤ lines + 1
+  pub listing : Good (s .table) (s .queue) → lines + 1 < 2 ^ 64 → (rest : List (List ℕ)) → listed lines s (line ∷ rest) ≡ text ++ listed lines′ s′ rest
+
+-- The text is put into the buffer.
+pub record Lines (line : List ℕ) (lines : ℕ) (s : Store) (out : List ℕ) (at : ℕ) (lines′ : ℕ) (s′ : Store) (end : ℕ) (new : List ℕ) : Type 0 where
+  pub within : end ≤ length new
+  pub text : List ℕ
+  pub put : Put out at text new end
+  pub tells : TellsLine line lines s text lines′ s′
+
+-- With the store t and scratch, the input x takes the session s to s′ and gives the output y.
+pub record Tells (s : Session) (t scratch x y : List ℕ) (s′ : Session) (t′ scratch′ : List ℕ) : Type 0 where
+  pub good : Good t (s .queue) → Good t′ (s′ .queue)
+  pub counted : s′ .lines ≤ s .lines + length x
+  pub listing : Good t (s .queue) → s .lines + length x < 2 ^ 64 → (rest : List ℕ) → ahead s t scratch (x ++ rest) ≡ y ++ ahead s′ t′ scratch′ rest
+
+-- One turn: the input up to its first line feed, or all of it.
+pub record Turns (s : Session) (t scratch input out : List ℕ) (at : ℕ) (s′ : Session) (taken end : ℕ) (t′ scratch′ new : List ℕ) : Type 0 where
+  pub some : 0 < length input → 0 < taken
+  pub most : taken ≤ length input
+  pub within : end ≤ length new
+  pub text : List ℕ
+  pub put : Put out at text new end
+  pub tells : Tells s t scratch (take taken input) text s′ t′ scratch′
+
+-- Of an input some is taken, and all of it if the buffer has room; the buffer's front is the output for what was taken.
+pub record Feeds (s : Session) (t scratch input : List ℕ) (s′ : Session) (taken written : ℕ) (t′ scratch′ out : List ℕ) : Type 0 where
+  pub most : taken ≤ length input
+  pub within : written ≤ length out
+  pub some : 0 < length input → room ≤ length out → 0 < taken
+  pub all : written + room ≤ length out → taken ≡ length input
+  pub tells : Tells s t scratch (take taken input) (take written out) s′ t′ scratch′
+
+-- At the end of the input the buffer's front is all that was ahead.
+pub record Finishes (s : Session) (t scratch : List ℕ) (written : ℕ) (out : List ℕ) : Type 0 where
+  pub within : written ≤ length out
+  pub listing : Good t (s .queue) → s .lines + 1 < 2 ^ 64 → ahead s t scratch [] ≡ take written out
