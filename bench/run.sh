@@ -26,6 +26,10 @@ marking() { # C ROUNDS
     chain "$1"
     awk -v k="$1" -v n="$2" 'BEGIN { for (i = 0; i < n; i++) { print "cons 0 0"; print "step"; print "down " k " 1"; print "step" } }'
 }
+# One line over and over after a fresh: the store has next to nothing to do, so that this is the cost of a line itself.
+same() { # LINE TIMES
+    awk -v t="$1" -v n="$2" 'BEGIN { print "fresh 64"; for (i = 0; i < n; i++) print t }'
+}
 # The best of five runs, in microseconds.
 best() { # PROGRAM..
     least=
@@ -56,6 +60,10 @@ for c in 64 512 4096; do
     measure "steps that free nothing" "$c"
     marking "$c" 2000 >"$work/in"
     measure "steps that mark everything" "$c"
+done
+for line in "car 70" "step" "no call"; do
+    same "$line" 200000 >"$work/in"
+    measure "'$line' over and over" 64
 done
 
 # A marking step alone: rounds added, so that the chain's making falls out.
