@@ -62,7 +62,7 @@ for c in 64 512 4096; do
     measure "steps that mark everything" "$c"
 done
 for line in "car 70" "step" "no call"; do
-    same "$line" 200000 >"$work/in"
+    same "$line" 1000000 >"$work/in"
     measure "'$line' over and over" 64
 done
 
