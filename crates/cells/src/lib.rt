@@ -12,6 +12,16 @@ const HEADER: usize = 3;
 
 const STRIDE: usize = 5;
 
+// The words of a table of the most cells.
+pub const MOST_WORDS: usize = HEADER + STRIDE * (machine::MOST_CELLS as usize);
+
+// How many words a table of c cells has.
+pub fn words_for(c: u16) -> usize
+    ensures { λ r. ⌜ r ≡ tableLength c ⌝ }
+{
+    HEADER + STRIDE * (c as usize)
+}
+
 // The words of a cell.
 pub const LEFT: usize = 0;
 

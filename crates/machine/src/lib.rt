@@ -4,6 +4,12 @@ ghost use Prim.Native.Nat.{_-_};
 ghost use Rattle.machine.specs.Counters.{Raised};
 ghost use Rattle.machine.specs.Queue.{emptyQueue};
 
+// The largest C.
+pub const MOST_CELLS: u16 = 4096;
+
+// The words from here on are atoms.
+pub const FIRST_ATOM: u16 = 32768;
+
 // The packet queue: 64 slots of a kind and three words, the first slot's place and the number of waiting packets.
 pub struct Queue {
     pub kinds: [u16; 64],
