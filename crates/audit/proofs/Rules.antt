@@ -22,7 +22,7 @@ use Rattle.machine.specs.Range.{every}
 use Rattle.machine.specs.Reached.{reached}
 use Rattle.machine.specs.Step.{cleared, Outcome, outcome}
 use Rattle.machine.specs.Table.{capacity, inUse, isFree}
-use Rattle.machine.proofs.Asked.{shape-is}
+use Rattle.machine.proofs.Questions.{shape-is}
 use Rattle.machine.proofs.Range.{and-first, and-second}
 use Rattle.audit.specs.Contract.{Asked, Judged, Audited}
 use Rattle.audit.specs.Live.{freeOrMarked}

@@ -15,7 +15,7 @@ use Rattle.machine.specs.Packets.{kindOf}
 use Rattle.machine.specs.Calls.{RowCall, car, cdr, cons, setLeft, setRight, up, down, row, store, field, packetOf}
 use Rattle.machine.specs.Questions.{Question, firstNo, refusedBy, inRange, numberInRange, wordsLegal, xIsCell, earlyRow, early}
 use Rattle.machine.proofs.Range.{tested}
-use Rattle.machine.proofs.Asked.{Numbered, firstNo-append, firstNo-none, early-numbered, Shape}
+use Rattle.machine.proofs.Questions.{Numbered, firstNo-append, firstNo-none, early-numbered, Shape}
 use Rattle.calls.specs.Early.{wordsNumber, firstOf, cellNumber, Within, Replaces}
 use Rattle.calls.specs.Tests.{freeByEnd, codeLate, codeQuestions}
 use Rattle.calls.specs.Called.{readCall, replaceCall, ReplaceKind}

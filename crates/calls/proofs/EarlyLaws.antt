@@ -14,7 +14,7 @@ use Rattle.machine.specs.Table.{capacity}
 use Rattle.machine.specs.Calls.{RowCall, car, cdr, cons, setLeft, setRight, up, down, row, store}
 use Rattle.machine.specs.Questions.{Question, firstNo, refusedBy, inRange, numberInRange, wordsLegal, xIsCell, earlyRow, early}
 use Rattle.machine.proofs.Range.{tested, and-first, and-second}
-use Rattle.machine.proofs.Asked.{Numbered, firstNo-append, firstNo-none, Shape, shape-is}
+use Rattle.machine.proofs.Questions.{Numbered, firstNo-append, firstNo-none, Shape, shape-is}
 use Rattle.calls.specs.Early.{wordsNumber, firstOf, cellNumber, Within}
 
 pub number-low : (n : ℕ) → n < 1 → numberInRange n ≡ false

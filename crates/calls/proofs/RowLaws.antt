@@ -20,7 +20,7 @@ use Rattle.machine.specs.Questions.{Question, ask, firstNo, refusedBy, heldEnou
 use Rattle.machine.specs.Machine.{accepted, answered}
 use Rattle.machine.specs.Answers.{refusalNumber, rowReply}
 use Rattle.machine.proofs.Range.{tested}
-use Rattle.machine.proofs.Asked.{Numbered, AllYes, firstNo-append, firstNo-none, firstNo-all, early-numbered, Shape, shape-is}
+use Rattle.machine.proofs.Questions.{Numbered, AllYes, firstNo-append, firstNo-none, firstNo-all, early-numbered, Shape, shape-is}
 use Rattle.calls.specs.Tests.{raisedWithin, freeByEnd, codeLate, codeQuestions}
 use Rattle.machine.proofs.Words.{cell-place, cell-number}
 use Rattle.calls.specs.Early.{wordsNumber, firstOf, cellNumber}

@@ -1,2 +1,2 @@
 -- The part of the table that begins at word 3.
-pub mod Part
+pub mod Words

@@ -1,11 +1,13 @@
-// Reading and writing the table: its header, and the cells in the part that begins at word 3. That part alone is lent to the functions that
-// read and write words of cells. Counters go in and out as their own types.
+// Reading and writing the table: its header, and the cells in the part that begins at word 3, which is lent on to the functions that read and
+// write fields and counts.
+mod part;
+
 use machine::CellCount;
 use machine::RootCount;
 ghost use mathlib.Core.Path.{_≡_};
-ghost use Prim.Native.Nat.{suc, _+_, _*_, _<_, _≤_};
-ghost use lib.ListN.{length, getD, set};
-ghost use Rattle.machine.specs.Table.{stride, right, rootCount, cellCount, state, capacity, firstFree, lastFree, tableLength, wordAt, putWord, putEnds, putCell, inUse};
+ghost use Prim.Native.Nat.{suc, _≤_};
+ghost use lib.ListN.{length, set};
+ghost use Rattle.machine.specs.Table.{header, right, rootCount, cellCount, state, newCell, freeCell, capacity, firstFree, lastFree, tableLength, scratchWords, wordAt, putWord, putEnds, putCell, inUse};
 
 // Words in front of the cells, and words of a cell.
 const HEADER: usize = 3;
@@ -22,6 +24,16 @@ pub fn words_for(c: u16) -> usize
     HEADER + STRIDE * (c as usize)
 }
 
+// The words of scratch that a step or an audit of a table of the most cells needs.
+pub const MOST_SCRATCH: usize = machine::MOST_CELLS as usize;
+
+// How many words of scratch a table of c cells needs.
+pub fn scratch_for(c: u16) -> usize
+    ensures { λ r. ⌜ r ≡ scratchWords c ⌝ }
+{
+    c as usize
+}
+
 // The words of a cell.
 pub const LEFT: usize = 0;
 
@@ -33,143 +45,131 @@ const CELL_COUNT: usize = 3;
 
 const STATE: usize = 4;
 
-fn word_in(cells: &[u16], place: usize, k: usize) -> u16
-    requires { ⌜ stride * place + k < length (now cells) ⌝ }
-    ensures { λ r. ⌜ r ≡ getD (now (cells .entry)) (stride * place + k) 0 ⌝ }
+// States: a free cell's, and a new cell's.
+const FREE: u16 = 0;
+
+const USED: u16 = 1;
+
+// A field of a cell: k is LEFT or RIGHT.
+pub fn field(table: &[u16], index: usize, k: usize) -> u16
+    requires { ⌜ (tableLength (suc index) ≤ length (now table)) × (k ≤ right) ⌝ }
+    ensures { λ r. ⌜ r ≡ wordAt (now (table .entry)) index k ⌝ }
 {
-    cells[STRIDE * place + k]
+    part::field(&table[HEADER..], index, k)
 }
 
-fn put_word_in(cells: &mut [u16], place: usize, k: usize, v: u16)
-    requires { ⌜ stride * place + k < length (now cells) ⌝ }
-    ensures { λ r. ⌜ now (cells .exit) ≡ set (now (cells .entry)) (stride * place + k) v ⌝ }
+pub fn set_field(table: &mut [u16], index: usize, k: usize, v: u16)
+    requires { ⌜ (tableLength (suc index) ≤ length (now table)) × (k ≤ right) ⌝ }
+    ensures { λ r. ⌜ now (table .exit) ≡ putWord (now (table .entry)) index k v ⌝ }
 {
-    cells[STRIDE * place + k] = v;
+    part::set_field(&mut table[HEADER..], index, k, v);
 }
 
-fn word(table: &[u16], place: usize, k: usize) -> u16
-    requires { ⌜ (tableLength (suc place) ≤ length (now table)) × (k < stride) ⌝ }
-    ensures { λ r. ⌜ r ≡ wordAt (now (table .entry)) place k ⌝ }
+pub fn root_count(table: &[u16], index: usize) -> RootCount
+    requires { ⌜ tableLength (suc index) ≤ length (now table) ⌝ }
+    ensures { λ r. ⌜ r .0 ≡ wordAt (now (table .entry)) index rootCount ⌝ }
 {
-    word_in(&table[HEADER..], place, k)
+    part::root_count(&table[HEADER..], index)
 }
 
-fn put_word(table: &mut [u16], place: usize, k: usize, v: u16)
-    requires { ⌜ (tableLength (suc place) ≤ length (now table)) × (k < stride) ⌝ }
-    ensures { λ r. ⌜ now (table .exit) ≡ putWord (now (table .entry)) place k v ⌝ }
+pub fn set_root_count(table: &mut [u16], index: usize, n: RootCount)
+    requires { ⌜ tableLength (suc index) ≤ length (now table) ⌝ }
+    ensures { λ r. ⌜ now (table .exit) ≡ putWord (now (table .entry)) index rootCount (n .0) ⌝ }
 {
-    put_word_in(&mut table[HEADER..], place, k, v);
+    part::set_root_count(&mut table[HEADER..], index, n);
 }
 
-// A field of the cell at a place: k is LEFT or RIGHT.
-pub fn field(table: &[u16], place: usize, k: usize) -> u16
-    requires { ⌜ (tableLength (suc place) ≤ length (now table)) × (k ≤ right) ⌝ }
-    ensures { λ r. ⌜ r ≡ wordAt (now (table .entry)) place k ⌝ }
+pub fn cell_count(table: &[u16], index: usize) -> CellCount
+    requires { ⌜ tableLength (suc index) ≤ length (now table) ⌝ }
+    ensures { λ r. ⌜ r .0 ≡ wordAt (now (table .entry)) index cellCount ⌝ }
 {
-    word(table, place, k)
+    part::cell_count(&table[HEADER..], index)
 }
 
-pub fn set_field(table: &mut [u16], place: usize, k: usize, v: u16)
-    requires { ⌜ (tableLength (suc place) ≤ length (now table)) × (k ≤ right) ⌝ }
-    ensures { λ r. ⌜ now (table .exit) ≡ putWord (now (table .entry)) place k v ⌝ }
+pub fn set_cell_count(table: &mut [u16], index: usize, n: CellCount)
+    requires { ⌜ tableLength (suc index) ≤ length (now table) ⌝ }
+    ensures { λ r. ⌜ now (table .exit) ≡ putWord (now (table .entry)) index cellCount (n .0) ⌝ }
 {
-    put_word(table, place, k, v);
-}
-
-pub fn root_count(table: &[u16], place: usize) -> RootCount
-    requires { ⌜ tableLength (suc place) ≤ length (now table) ⌝ }
-    ensures { λ r. ⌜ r .0 ≡ wordAt (now (table .entry)) place rootCount ⌝ }
-{
-    RootCount(word(table, place, ROOT_COUNT))
-}
-
-pub fn set_root_count(table: &mut [u16], place: usize, n: RootCount)
-    requires { ⌜ tableLength (suc place) ≤ length (now table) ⌝ }
-    ensures { λ r. ⌜ now (table .exit) ≡ putWord (now (table .entry)) place rootCount (n .0) ⌝ }
-{
-    put_word(table, place, ROOT_COUNT, n.0);
-}
-
-pub fn cell_count(table: &[u16], place: usize) -> CellCount
-    requires { ⌜ tableLength (suc place) ≤ length (now table) ⌝ }
-    ensures { λ r. ⌜ r .0 ≡ wordAt (now (table .entry)) place cellCount ⌝ }
-{
-    CellCount(word(table, place, CELL_COUNT))
-}
-
-pub fn set_cell_count(table: &mut [u16], place: usize, n: CellCount)
-    requires { ⌜ tableLength (suc place) ≤ length (now table) ⌝ }
-    ensures { λ r. ⌜ now (table .exit) ≡ putWord (now (table .entry)) place cellCount (n .0) ⌝ }
-{
-    put_word(table, place, CELL_COUNT, n.0);
-}
-
-pub fn in_use(table: &[u16], place: usize) -> bool
-    requires { ⌜ tableLength (suc place) ≤ length (now table) ⌝ }
-    ensures { λ r. ⌜ r ≡ inUse (now (table .entry)) place ⌝ }
-{
-    0 < word(table, place, STATE)
+    part::set_cell_count(&mut table[HEADER..], index, n);
 }
 
 // The state's word itself; `in_use` asks only whether it is above 0.
-pub fn state_word(table: &[u16], place: usize) -> u16
-    requires { ⌜ tableLength (suc place) ≤ length (now table) ⌝ }
-    ensures { λ r. ⌜ r ≡ wordAt (now (table .entry)) place state ⌝ }
+pub fn state_word(table: &[u16], index: usize) -> u16
+    requires { ⌜ tableLength (suc index) ≤ length (now table) ⌝ }
+    ensures { λ r. ⌜ r ≡ wordAt (now (table .entry)) index state ⌝ }
 {
-    word(table, place, STATE)
+    part::state_word(&table[HEADER..], index)
 }
 
-// All five words of the cell at a place.
-pub fn set_cell(
-    table: &mut [u16],
-    place: usize,
-    l: u16,
-    r: u16,
-    root: RootCount,
-    cell: CellCount,
-    state: u16,
-)
-    requires { ⌜ tableLength (suc place) ≤ length (now table) ⌝ }
-    ensures { λ r₀. ⌜ now (table .exit) ≡ putCell (now (table .entry)) place l r (root .0) (cell .0) state ⌝ }
+fn set_state(table: &mut [u16], index: usize, v: u16)
+    requires { ⌜ tableLength (suc index) ≤ length (now table) ⌝ }
+    ensures { λ r. ⌜ now (table .exit) ≡ putWord (now (table .entry)) index state v ⌝ }
 {
-    put_word(table, place, LEFT, l);
-    put_word(table, place, RIGHT, r);
-    put_word(table, place, ROOT_COUNT, root.0);
-    put_word(table, place, CELL_COUNT, cell.0);
-    put_word(table, place, STATE, state);
+    part::set_state(&mut table[HEADER..], index, v);
+}
+
+pub fn in_use(table: &[u16], index: usize) -> bool
+    requires { ⌜ tableLength (suc index) ≤ length (now table) ⌝ }
+    ensures { λ r. ⌜ r ≡ inUse (now (table .entry)) index ⌝ }
+{
+    FREE < state_word(table, index)
+}
+
+// A free cell: its left is the next free cell or 0, its other words are 0.
+pub fn set_free(table: &mut [u16], index: usize, next: u16)
+    requires { ⌜ tableLength (suc index) ≤ length (now table) ⌝ }
+    ensures { λ r. ⌜ now (table .exit) ≡ putCell (now (table .entry)) index (freeCell next) ⌝ }
+{
+    set_field(table, index, LEFT, next);
+    set_field(table, index, RIGHT, 0);
+    set_root_count(table, index, RootCount(0));
+    set_cell_count(table, index, CellCount(0));
+    set_state(table, index, FREE);
+}
+
+// A new cell: both operands, root count 1 and cell count 0.
+pub fn set_new(table: &mut [u16], index: usize, x: u16, y: u16)
+    requires { ⌜ tableLength (suc index) ≤ length (now table) ⌝ }
+    ensures { λ r. ⌜ now (table .exit) ≡ putCell (now (table .entry)) index (newCell x y) ⌝ }
+{
+    set_field(table, index, LEFT, x);
+    set_field(table, index, RIGHT, y);
+    set_root_count(table, index, RootCount(1));
+    set_cell_count(table, index, CellCount(0));
+    set_state(table, index, USED);
 }
 
 // The header: C, the first free cell, the last free cell.
 pub fn capacity_of(table: &[u16]) -> u16
-    requires { ⌜ 3 ≤ length (now table) ⌝ }
+    requires { ⌜ header ≤ length (now table) ⌝ }
     ensures { λ r. ⌜ r ≡ capacity (now (table .entry)) ⌝ }
 {
     table[0]
 }
 
 pub fn first_free(table: &[u16]) -> u16
-    requires { ⌜ 3 ≤ length (now table) ⌝ }
+    requires { ⌜ header ≤ length (now table) ⌝ }
     ensures { λ r. ⌜ r ≡ firstFree (now (table .entry)) ⌝ }
 {
     table[1]
 }
 
 pub fn last_free(table: &[u16]) -> u16
-    requires { ⌜ 3 ≤ length (now table) ⌝ }
+    requires { ⌜ header ≤ length (now table) ⌝ }
     ensures { λ r. ⌜ r ≡ lastFree (now (table .entry)) ⌝ }
 {
     table[2]
 }
 
 pub fn set_capacity(table: &mut [u16], c: u16)
-    requires { ⌜ 3 ≤ length (now table) ⌝ }
+    requires { ⌜ header ≤ length (now table) ⌝ }
     ensures { λ r. ⌜ now (table .exit) ≡ set (now (table .entry)) 0 c ⌝ }
 {
     table[0] = c;
 }
 
 pub fn set_ends(table: &mut [u16], first: u16, last: u16)
-    requires { ⌜ 3 ≤ length (now table) ⌝ }
+    requires { ⌜ header ≤ length (now table) ⌝ }
     ensures { λ r. ⌜ now (table .exit) ≡ putEnds (now (table .entry)) first last ⌝ }
 {
     table[1] = first;

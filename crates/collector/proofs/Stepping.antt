@@ -24,7 +24,7 @@ use Rattle.machine.proofs.Range.{tested}
 use Rattle.machine.proofs.Ring.{waiting-taken}
 use Rattle.machine.proofs.Select.{select-places}
 use Rattle.machine.proofs.Sweep.{sweeps}
-use Rattle.machine.proofs.Asked.{shape-is}
+use Rattle.machine.proofs.Questions.{shape-is}
 use Rattle.machine.proofs.Kept.{Framed, framed-changes}
 use Rattle.collector.specs.declared.Stepped.{Stepped}
 use Rattle.collector.specs.Fitting.{tooLarge, moveFitting, applyFitting}

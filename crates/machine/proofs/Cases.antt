@@ -1,28 +1,17 @@
 -- The worked cases, by computation.
 use mathlib.Core.Path.{refl}
-use Rattle.machine.specs.Range.{every, exists, total, select, tabulate, matching, occurrences, everyOf, lastOf}
-use Rattle.machine.specs.Words.{isNil, isCell, isAtom, isLegal}
-use Rattle.machine.specs.Table.{capacity, firstFree, lastFree, tableLength, position, wordAt, putWord, putEnds, putCell, inUse, isFree}
-use Rattle.machine.specs.Queue.{slot, putSlot, appended, taken, packetsFrom, waiting}
-use Rattle.machine.specs.Packets.{kindOf, changesOf, changes, namesOf, names, usesOf, uses, movedBy, waitingChange, contains, isNamed}
-use Rattle.machine.specs.Counts.{heldAtLeast, heldAtMost, pointersFrom, pointers}
-use Rattle.machine.specs.Reached.{isRoot, pointsTo, marked, spread, marks, reachedBy, reached}
-use Rattle.machine.specs.Calls.{field, packetOf, withoutFirst, written, valueOf, chained, freshTable}
-use Rattle.machine.specs.Step.{moveCount, applyChanges, unreached, lowerPointers, join, joinAll, swept, cleared, stepWith, stepFrom, stepped}
-use Rattle.machine.specs.Questions.{firstNo, inRange, longEnough, scratchEnough, cellsInRange, numberInRange, wordsLegal, xIsCell, heldEnough, slotEmpty, cellFree, heldWithin, pointersWithin, earlyRow, early, askFree, lateRow, late, questions}
-use Rattle.machine.specs.Audit.{fieldSound, cellSound, cellsSound, walk, freeChain, laidOut, metOnce, chainSound, isZeroPacket, otherSlotsZero, wordsOfKind, packetLegal, namesInUse, packetsLegal, replayed, replays, packetsSound, undoableOf, undoneOf, undoable, undone, before, undoes, pointersSound, allReached, rules, auditReply, audited}
-use Rattle.machine.specs.Machine.{accepted, answered, machine, run, replies}
+use Rattle.machine.proofs.Computes.{computes}
 use Rattle.machine.specs.Cases.{K-table, More-cases}
 
 pub K : K-table
-unfolding every exists total select tabulate matching occurrences everyOf lastOf isNil isCell isAtom isLegal capacity firstFree lastFree position wordAt putWord putEnds putCell inUse isFree slot putSlot appended taken packetsFrom waiting kindOf changesOf changes namesOf names usesOf uses movedBy waitingChange contains isNamed heldAtLeast heldAtMost pointersFrom pointers isRoot pointsTo marked spread marks reachedBy reached field packetOf withoutFirst written valueOf chained freshTable moveCount applyChanges unreached lowerPointers join joinAll swept cleared stepWith stepFrom stepped firstNo inRange longEnough scratchEnough cellsInRange numberInRange wordsLegal xIsCell heldEnough slotEmpty cellFree heldWithin pointersWithin earlyRow early askFree lateRow late questions accepted answered machine run replies
+unfolding computes
 K = record {
   replies = (refl, (refl, (refl, (refl, (refl, (refl, (refl, (refl, (refl, (refl, (refl, tt)))))))))));
   K1-ends = refl;
 }
 
 pub more : More-cases
-unfolding every exists total select tabulate matching occurrences everyOf lastOf isNil isCell isAtom isLegal capacity firstFree lastFree position wordAt putWord putEnds putCell inUse isFree slot putSlot appended taken packetsFrom waiting kindOf changesOf changes namesOf names usesOf uses movedBy waitingChange contains isNamed heldAtLeast heldAtMost pointersFrom pointers isRoot pointsTo marked spread marks reachedBy reached field packetOf withoutFirst written valueOf chained freshTable moveCount applyChanges unreached lowerPointers join joinAll swept cleared stepWith stepFrom stepped firstNo inRange longEnough scratchEnough cellsInRange numberInRange wordsLegal xIsCell heldEnough slotEmpty cellFree heldWithin pointersWithin earlyRow early askFree lateRow late questions fieldSound cellSound cellsSound walk freeChain laidOut metOnce chainSound isZeroPacket otherSlotsZero wordsOfKind packetLegal namesInUse packetsLegal replayed replays packetsSound undoableOf undoneOf undoable undone before undoes pointersSound allReached rules auditReply audited accepted answered machine run replies
+unfolding computes
 more = record {
   replies = (refl, (refl, (refl, (refl, (refl, (refl, (refl, (refl, (refl, (refl, (refl, tt)))))))))));
   detach-ends = refl;

@@ -11,11 +11,12 @@ use lib.ListN.{length, length-map}
 use borrow.Author.Tests.{eqb-true, eqb-false, eq-eqb, ne-eqb}
 use Rattle.machine.specs.Range.{every, total, matching, occurrences, everyOf, lastOf}
 use Rattle.machine.specs.Words.{isCell}
-use Rattle.machine.specs.Table.{left, right, rootCount, cellCount, state, capacity, firstFree, lastFree, wordAt, inUse, isFree}
+use Rattle.machine.specs.Table.{stride, left, right, rootCount, cellCount, state, capacity, firstFree, lastFree, wordAt, inUse, isFree}
 use Rattle.machine.specs.Calls.{field}
 use Rattle.machine.specs.Audit.{walk, freeChain, laidOut, metOnce, chainSound}
 use Rattle.machine.specs.Facts.{Linked, Chain}
 use Rattle.machine.proofs.Range.{tested, or-true, or-left, or-right, and-both, and-first, and-second, every-at, every-all, total-same, total-le, total-add, total-ones, total-zero, total-one, matching-same, matching-other, lt-or-ge}
+use Rattle.machine.proofs.Lists.{at-most-one, Places}
 use Rattle.machine.proofs.Table.{each-word, free-not-in-use, not-in-use-free}
 use Rattle.machine.proofs.Words.{cell-place, cell-number, place-cell}
 
@@ -28,10 +29,6 @@ occurrences-suc : (x : ℕ) (is : List ℕ) → occurrences (suc x) (map suc is)
 unfolding occurrences
 occurrences-suc x [] = refl
 occurrences-suc x (i ∷ is) = rw (matching-suc i x 1, occurrences-suc x is)
-
-abbrev pub Places : ℕ → List ℕ → Type 0
-Places c [] = Unit {0}
-Places c (i ∷ is) = (i < c) × Places c is
 
 -- the places below c, each counted as often as it stands in a list, are the list's length
 pub total-occurrences : (c : ℕ) (is : List ℕ) → Places c is → total c (λ i. occurrences i is) ≡ length is
@@ -96,7 +93,7 @@ unfolding everyOf
 numbers-cells c [] p = refl
 numbers-cells c (i ∷ is) p = and-both (place-cell c i (p .0)) (numbers-cells c is (p .1))
 
-pub laid-wiped : (t : List ℕ) (i : ℕ) → laidOut t i ≡ true → (k : ℕ) → right ≤ k → k ≤ state → wordAt t i k ≡ 0
+pub laid-wiped : (t : List ℕ) (i : ℕ) → laidOut t i ≡ true → (k : ℕ) → right ≤ k → k < stride → wordAt t i k ≡ 0
 unfolding laidOut
 laid-wiped t i h =
     let first = eqb (wordAt t i right) 0 in
@@ -111,17 +108,13 @@ laid-wiped t i h =
     (λ _. eqb-true (wordAt t i state) 0 (and-second third (eqb (wordAt t i state) 0) h))
     k (omega arith) low
 
-wiped-laid : (t : List ℕ) (i : ℕ) → ((k : ℕ) → right ≤ k → k ≤ state → wordAt t i k ≡ 0) → laidOut t i ≡ true
+wiped-laid : (t : List ℕ) (i : ℕ) → ((k : ℕ) → right ≤ k → k < stride → wordAt t i k ≡ 0) → laidOut t i ≡ true
 unfolding laidOut
 wiped-laid t i f =
-    and-both (and-both (and-both (eq-eqb (wordAt t i right) 0 (f 1 (omega arith) (omega arith)))
-    (eq-eqb (wordAt t i rootCount) 0 (f 2 (omega arith) (omega arith))))
-    (eq-eqb (wordAt t i cellCount) 0 (f 3 (omega arith) (omega arith))))
-    (eq-eqb (wordAt t i state) 0 (f 4 (omega arith) (omega arith)))
-
-at-most-one : (b : Bool) → cond b 1 0 ≤ 1
-at-most-one true = omega arith
-at-most-one false = omega arith
+    and-both (and-both (and-both (eq-eqb (wordAt t i right) 0 (f right (omega arith) (omega arith)))
+    (eq-eqb (wordAt t i rootCount) 0 (f rootCount (omega arith) (omega arith))))
+    (eq-eqb (wordAt t i cellCount) 0 (f cellCount (omega arith) (omega arith))))
+    (eq-eqb (wordAt t i state) 0 (f state (omega arith) (omega arith)))
 
 module _ (t : List ℕ) (h : chainSound t ≡ true) where
   abbrev met : List ℕ

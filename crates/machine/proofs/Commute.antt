@@ -1,8 +1,8 @@
 -- Writes to different words commute, and lowering a cell count commutes with joining a cell to the free chain.
-use mathlib.Core.Path.{_≡_, sym, ap, _∙_}
+use mathlib.Core.Path.{_≡_, refl, sym, ap, _∙_}
 use mathlib.Core.Logic.{⊎-elim}
 use mathlib.Core.Bool.{Bool, true, false, cond}
-use mathlib.Core.List.{List}
+use mathlib.Core.List.{List, [], _∷_}
 use Prim.Native.Nat.{ℕ, suc, pred, _+_, _-_, _*_, _≤_, _<_}
 use native.Mathlib.Omega.{arith}
 use lib.Dec.{eqb}
@@ -10,7 +10,7 @@ use lib.ListN.{length, set}
 use lib.Seq.{set-comm, set-set}
 use borrow.Author.Tests.{eqb-true, eqb-false}
 use Rattle.machine.specs.Words.{isCell}
-use Rattle.machine.specs.Table.{stride, header, left, right, rootCount, cellCount, state, capacity, firstFree, lastFree, tableLength, position, wordAt, putWord, putEnds, putCell}
+use Rattle.machine.specs.Table.{stride, header, left, cellCount, freeCell, capacity, firstFree, lastFree, tableLength, position, wordAt, putWord, putEnds, putWords, putCell}
 use Rattle.machine.specs.Packets.{cell, minus}
 use Rattle.machine.specs.Step.{moveCount, join}
 use Rattle.machine.proofs.Range.{tested}
@@ -32,46 +32,40 @@ ends-put t i k v f l =
     ap (λ (u : List ℕ). set u 2 l) (set-comm t (header + stride * i + k) 1 v f (omega arith))
     ∙ set-comm (set t 1 f) (header + stride * i + k) 2 v l (omega arith)
 
+-- a word written before several words of a cell: of another cell it stands, of those words it is lost
+words-other : (t : List ℕ) (i k : ℕ) (vs : List ℕ) → k + length vs ≤ stride → (p m v : ℕ) → m < stride → (p ≡ i → ⊥)
+    → putWords (putWord t p m v) i k vs ≡ putWord (putWords t i k vs) p m v
+unfolding putWords
+words-other t i k [] l p m v h d = refl
+words-other t i k (w ∷ vs) l p m v h d =
+    ap (λ (u : List ℕ). putWords u i (suc k) vs) (put-comm t p m v i k w h (omega arith) (λ e _. d e))
+    ∙ words-other (putWord t i k w) i (suc k) vs (omega arith) p m v h d
+
+words-same : (t : List ℕ) (i k : ℕ) (vs : List ℕ) → k + length vs ≤ stride → (m v : ℕ) → k ≤ m → m < k + length vs → putWords (putWord t i m v) i k vs ≡ putWords t i k vs
+unfolding putWords
+words-same t i k [] l m v low high = absurd (omega arith)
+words-same t i k (w ∷ vs) l m v low high =
+    ⊎-elim (λ e. ap (λ (u : List ℕ). putWords u i (suc k) vs) (rw (eqb-true k m e) (put-again t i m v w)))
+    (λ e. let d = eqb-false k m e in
+    ap (λ (u : List ℕ). putWords u i (suc k) vs) (put-comm t i m v i k w (omega arith) (omega arith) (λ _ x. d (omega arith)))
+    ∙ words-same (putWord t i k w) i (suc k) vs (omega arith) m v (omega (arith, d)) (omega arith))
+    (tested (eqb k m))
+
 module _ (t : List ℕ) (i p v : ℕ) where
   abbrev put : List ℕ → List ℕ
   put u = putWord u p cellCount v
 
-  abbrev t₁ : List ℕ
-  t₁ = putWord t i left 0
-
-  abbrev t₂ : List ℕ
-  t₂ = putWord t₁ i right 0
-
-  abbrev t₃ : List ℕ
-  t₃ = putWord t₂ i rootCount 0
-
-  abbrev t₄ : List ℕ
-  t₄ = putWord t₃ i cellCount 0
-
   -- a cell count written and the cell at place i wiped
-  wipe-other : (p ≡ i → ⊥) → putCell (put t) i 0 0 0 0 0 ≡ put (putCell t i 0 0 0 0 0)
+  wipe-other : (p ≡ i → ⊥) → putCell (put t) i (freeCell 0) ≡ put (putCell t i (freeCell 0))
   unfolding putCell
-  wipe-other d =
-      cc (
-        put-comm t p cellCount v i left 0 (omega arith) (omega arith) (λ e _. d e),
-        put-comm t₁ p cellCount v i right 0 (omega arith) (omega arith) (λ e _. d e),
-        put-comm t₂ p cellCount v i rootCount 0 (omega arith) (omega arith) (λ e _. d e),
-        put-comm t₃ p cellCount v i cellCount 0 (omega arith) (omega arith) (λ e _. d e),
-        put-comm t₄ p cellCount v i state 0 (omega arith) (omega arith) (λ e _. d e),
-      )
+  wipe-other d = words-other t i left (freeCell 0) (omega arith) p cellCount v (omega arith) d
 
-  wipe-same : p ≡ i → putCell (put t) i 0 0 0 0 0 ≡ putCell t i 0 0 0 0 0
+  wipe-same : p ≡ i → putCell (put t) i (freeCell 0) ≡ putCell t i (freeCell 0)
   unfolding putCell
-  wipe-same e =
-      cc (
-        put-comm t i cellCount v i left 0 (omega arith) (omega arith) (λ _ x. omega arith),
-        put-comm t₁ i cellCount v i right 0 (omega arith) (omega arith) (λ _ x. omega arith),
-        put-comm t₂ i cellCount v i rootCount 0 (omega arith) (omega arith) (λ _ x. omega arith),
-        put-again t₃ i cellCount v 0,
-      )
+  wipe-same e = rw e (words-same t i left (freeCell 0) (omega arith) cellCount v (omega arith) (omega arith))
 
   abbrev wiped : List ℕ
-  wiped = putCell t i 0 0 0 0 0
+  wiped = putCell t i (freeCell 0)
 
   join-other : (p ≡ i → ⊥) → join (put t) i ≡ put (join t i)
   unfolding join

@@ -7,23 +7,18 @@ use Prim.Native.Nat.{ℕ, zero, suc, _+_, _*_, _≤_, _<_}
 use native.Mathlib.Omega.{arith}
 use native.Mathlib.Nat.{not-suc-le-zero}
 use lib.Dec.{eqb}
-use lib.ListN.{length, set, drop, length-set}
+use lib.ListN.{length, getD, set, drop, length-set}
 use lib.Seq.{getD-set-same, getD-set-other, drop-set-lt}
 use borrow.Author.Tests.{eq-eqb, ne-eqb}
-use Rattle.machine.specs.Table.{header, stride, left, right, rootCount, cellCount, state, capacity, firstFree, lastFree, tableLength, wordAt, putEnds, putCell}
+use Rattle.machine.specs.Table.{header, stride, left, right, freeCell, capacity, firstFree, lastFree, tableLength, wordAt, putEnds, putCell}
 use Rattle.machine.specs.Calls.{chained, freshTable}
 use Rattle.machine.specs.Facts.{FreshTable}
 use Rattle.machine.proofs.Range.{below-suc}
-use Rattle.machine.proofs.Table.{Inside, each-word, room, inside-putCell, cell-left, cell-right, cell-root, cell-cell, cell-state, cell-other, length-putCell, capacity-putCell, firstFree-putCell, lastFree-putCell, past-putCell, length-putEnds, capacity-putEnds, firstFree-putEnds, lastFree-putEnds, past-putEnds}
+use Rattle.machine.proofs.Table.{Inside, room, inside-putCell, cell-word, free-word, cell-other, length-putCell, capacity-putCell, firstFree-putCell, lastFree-putCell, past-putCell, length-putEnds, capacity-putEnds, firstFree-putEnds, lastFree-putEnds, past-putEnds}
 
 -- the left word of place i in a chain of c
 abbrev nextOf : ℕ → ℕ → ℕ
 nextOf c i = cond (eqb (suc i) c) 0 (suc (suc i))
-
--- the word k of place i in such a chain
-abbrev freshWord : ℕ → ℕ → ℕ → ℕ
-freshWord c i zero = nextOf c i
-freshWord c i (suc k) = 0
 
 record Chained (c n : ℕ) (t t′ : List ℕ) : Type 0 where
   sameLength : length t′ ≡ length t
@@ -31,7 +26,7 @@ record Chained (c n : ℕ) (t t′ : List ℕ) : Type 0 where
   sameFirst : firstFree t′ ≡ firstFree t
   sameLast : lastFree t′ ≡ lastFree t
   pastCells : drop (tableLength c) t′ ≡ drop (tableLength c) t
-  words : (i k : ℕ) → i < n → k < stride → wordAt t′ i k ≡ freshWord c i k
+  words : (i k : ℕ) → i < n → k < stride → wordAt t′ i k ≡ getD (freeCell (nextOf c i)) k 0
 
 module _ (c : ℕ) (t : List ℕ) (f : tableLength c ≤ length t) where
   chained-is : (n : ℕ) → n ≤ c → Chained c n t (chained c n t)
@@ -43,28 +38,26 @@ module _ (c : ℕ) (t : List ℕ) (f : tableLength c ≤ length t) where
       u = chained c n t
 
       v : List ℕ
-      v = putCell u n (nextOf c n) 0 0 0 0
+      v = putCell u n (freeCell (nextOf c n))
 
       further : Chained c n t u → Chained c (suc n) t v
       further ih = record {
-        sameLength = length-putCell u n (nextOf c n) 0 0 0 0 ∙ ih .sameLength;
-        sameCapacity = capacity-putCell u n (nextOf c n) 0 0 0 0 ∙ ih .sameCapacity;
-        sameFirst = firstFree-putCell u n (nextOf c n) 0 0 0 0 ∙ ih .sameFirst;
-        sameLast = lastFree-putCell u n (nextOf c n) 0 0 0 0 ∙ ih .sameLast;
-        pastCells = past-putCell u c n (nextOf c n) 0 0 0 0 h ∙ ih .pastCells;
-        words = λ i k l m. ⊎-elim (λ b. cell-other u n (nextOf c n) 0 0 0 0 i k m (omega arith) ∙ ih .words i k b m) (λ e. here i k e m) (below-suc l);
+        sameLength = length-putCell u n (freeCell (nextOf c n)) ∙ ih .sameLength;
+        sameCapacity = capacity-putCell u n (freeCell (nextOf c n)) refl ∙ ih .sameCapacity;
+        sameFirst = firstFree-putCell u n (freeCell (nextOf c n)) refl ∙ ih .sameFirst;
+        sameLast = lastFree-putCell u n (freeCell (nextOf c n)) refl ∙ ih .sameLast;
+        pastCells = past-putCell u c n (freeCell (nextOf c n)) refl h ∙ ih .pastCells;
+        words = λ i k l m. ⊎-elim (λ b. cell-other u n (freeCell (nextOf c n)) refl i k m (omega arith) ∙ ih .words i k b m) (λ e. here i k e m) (below-suc l);
       }
         where
           inside : Inside u n
           inside = room u c n (rw (ih .sameLength) f) h
 
-          at-n : (k : ℕ) → k < stride → wordAt v n k ≡ freshWord c n k
-          at-n = each-word (λ k. wordAt v n k ≡ freshWord c n k)
-              (cell-left u n (nextOf c n) 0 0 0 0 inside) (cell-right u n (nextOf c n) 0 0 0 0 inside) (cell-root u n (nextOf c n) 0 0 0 0 inside)
-              (cell-cell u n (nextOf c n) 0 0 0 0 inside) (cell-state u n (nextOf c n) 0 0 0 0 inside)
-
-          here : (i k : ℕ) → i ≡ n → k < stride → wordAt v i k ≡ freshWord c i k
-          here i k e m = rw e (at-n k m)
+          here : (i k : ℕ) → i ≡ n → k < stride → wordAt v i k ≡ getD (freeCell (nextOf c i)) k 0
+          here i k e m =
+              ap (λ (j : ℕ). wordAt v j k) e
+              ∙ cell-word u n (freeCell (nextOf c n)) refl inside k m
+              ∙ ap (λ (j : ℕ). getD (freeCell (nextOf c j)) k 0) (sym e)
 
   -- the header, before the chain is written
   abbrev headed : List ℕ
@@ -78,10 +71,6 @@ next-is c i l = rw (ne-eqb (suc i) c (omega arith))
 
 end-is : (c i : ℕ) → suc i ≡ c → nextOf c i ≡ 0
 end-is c i e = rw (eq-eqb (suc i) c e)
-
-zero-is : (c i k : ℕ) → right ≤ k → freshWord c i k ≡ 0
-zero-is c i zero l = absurd (not-suc-le-zero l)
-zero-is c i (suc k) l = refl
 
 three : (c : ℕ) (t : List ℕ) → tableLength c ≤ length t → 2 < length t
 three c t f = omega arith
@@ -106,5 +95,5 @@ fresh-is c t f =
       pastCells = k .pastCells ∙ past-putEnds (set t 0 c) c 1 c ∙ past-set c t;
       next = λ i l. k .words i left (omega arith) (omega arith) ∙ next-is c i l;
       end = λ i e. k .words i left (omega arith) (omega arith) ∙ end-is c i e;
-      zeros = λ i m l low high. k .words i m l (omega arith) ∙ zero-is c i m low;
+      zeros = λ i m l low high. k .words i m l (omega arith) ∙ free-word (nextOf c i) m low high;
     }

@@ -8,7 +8,7 @@ use native.Mathlib.Omega.{arith}
 use lib.ListN.{length, drop, replicate, length-append, length-replicate, length-drop}
 use lib.Seq.{drop-at}
 use borrow.Author.Tests.{leb-true}
-use Rattle.machine.specs.Table.{stride, left, right, capacity, firstFree, lastFree, tableLength, putWord, putEnds, putCell}
+use Rattle.machine.specs.Table.{stride, left, right, newCell, scratchWords, capacity, firstFree, lastFree, tableLength, putWord, putEnds, putCell}
 use Rattle.machine.specs.Queue.{Packet, waiting}
 use Rattle.machine.specs.Packets.{contains, Change, changes}
 use Rattle.machine.specs.Calls.{Call, fresh, row, step, audit, RowCall, car, cdr, cons, setLeft, setRight, up, down}
@@ -17,13 +17,14 @@ use Rattle.machine.specs.Step.{moveCount, applyChanges, unreached, swept
 use Rattle.machine.specs.Questions.{firstNo, earlyRow, early, late, questions, inRange, scratchEnough, xIsCell}
 use Rattle.machine.specs.Audit.{rules, auditReply, audited}
 use Rattle.machine.specs.Machine.{accepted, answered, machine}
-use Rattle.machine.specs.Promise.{Untouched, Bounded, numbers, Promise}
+use Rattle.machine.specs.Promise.{ByMachine, Gives, Untouched, Bounded, numbers, Promise}
 use Rattle.machine.proofs.Words.{cell-place}
 use Rattle.machine.proofs.Table.{length-putWord, length-putEnds, length-putCell, capacity-putWord, capacity-putEnds, capacity-putCell, past-putWord, past-putEnds, past-putCell}
+use Rattle.machine.proofs.Scratch.{length-cleared, past-cleared}
 use Rattle.machine.proofs.Moves.{length-move, capacity-move, lastFree-move, past-move}
 use Rattle.machine.proofs.Sweep.{sweeps}
 use Rattle.machine.proofs.Select.{select-places}
-use Rattle.machine.proofs.Asked.{AllYes, firstNo-append, firstNo-none, firstNo-number, firstNo-all, early-numbered, Shape, shape-is}
+use Rattle.machine.proofs.Questions.{AllYes, firstNo-append, firstNo-none, firstNo-number, firstNo-all, early-numbered, shape-is}
 
 pub machine-refused : (s : Store) (call : Call) (n : ℕ) → firstNo (questions s call) ≡ suc n → machine s call ≡ outcome (refused (suc n)) s
 unfolding machine answered
@@ -97,11 +98,11 @@ framed-putWord t i k v l m = record {
   pastCells = past-putWord t (capacity t) i k v l m;
 }
 
-framed-new : (t : List ℕ) (f g i l r n m s : ℕ) → i < capacity t → Framed t (putCell (putEnds t f g) i l r n m s)
-framed-new t f g i l r n m s h = record {
-  sameLength = length-putCell (putEnds t f g) i l r n m s ∙ length-putEnds t f g;
-  sameCapacity = capacity-putCell (putEnds t f g) i l r n m s ∙ capacity-putEnds t f g;
-  pastCells = past-putCell (putEnds t f g) (capacity t) i l r n m s h ∙ past-putEnds t (capacity t) f g;
+framed-new : (t : List ℕ) (f g i : ℕ) (ws : List ℕ) → length ws ≡ stride → i < capacity t → Framed t (putCell (putEnds t f g) i ws)
+framed-new t f g i ws e h = record {
+  sameLength = length-putCell (putEnds t f g) i ws ∙ length-putEnds t f g;
+  sameCapacity = capacity-putCell (putEnds t f g) i ws e ∙ capacity-putEnds t f g;
+  pastCells = past-putCell (putEnds t f g) (capacity t) i ws e h ∙ past-putEnds t (capacity t) f g;
 }
 
 -- the questions that say "yes" before a row call is accepted make its writes lie within the cells
@@ -115,7 +116,7 @@ framed-written s (car x) h = framed-refl (s .table)
 framed-written s (cdr x) h = framed-refl (s .table)
 framed-written s (cons x y) h =
     let shape = shape-is (s .table) (s .queue) (h .0) in
-    framed-new (s .table) _ _ (pred (firstFree (s .table))) x y 1 0 1 (omega (arith, shape .first, shape .some))
+    framed-new (s .table) _ _ (pred (firstFree (s .table))) (newCell x y) refl (omega (arith, shape .table .first, shape .table .some))
 framed-written s (setLeft x y) h = framed-putWord (s .table) (pred x) left y (x-place (s .table) x (h .1 .1 .0)) (omega arith)
 framed-written s (setRight x y) h = framed-putWord (s .table) (pred x) right y (x-place (s .table) x (h .1 .1 .0)) (omega arith)
 framed-written s (up x n) h = framed-refl (s .table)
@@ -141,16 +142,7 @@ framed-swept t ps f b =
     let w = sweeps t (unreached t ps) f (select-places (capacity t) _) b in
     record { sameLength = w .sameLength; sameCapacity = w .sameCapacity; pastCells = w .pastCells }
 
--- the cleared scratch
-length-cleared : (c : ℕ) (s : List ℕ) → c ≤ length s → length (cleared c s) ≡ length s
-unfolding cleared
-length-cleared c s h = simp (length-append, length-replicate, length-drop) (omega arith)
-
-drop-cleared : (c : ℕ) (s : List ℕ) → drop c (cleared c s) ≡ drop c s
-unfolding cleared
-drop-cleared c s = drop-at (replicate c 0) (drop c s) c (length-replicate c 0)
-
-untouched : (s : Store) (t : List ℕ) (q : _) (u : List ℕ) → Framed (s .table) t → length u ≡ length (s .scratch) → drop (capacity (s .table)) u ≡ drop (capacity (s .table)) (s .scratch) → Untouched s (store t q u)
+untouched : (s : Store) (t : List ℕ) (q : _) (u : List ℕ) → Framed (s .table) t → length u ≡ length (s .scratch) → drop (scratchWords (capacity (s .table))) u ≡ drop (scratchWords (capacity (s .table))) (s .scratch) → Untouched s (store t q u)
 untouched s t q u f e d = record {
   sameLength = f .sameLength;
   sameCapacity = f .sameCapacity;
@@ -162,9 +154,9 @@ untouched s t q u f e d = record {
 unmoved : (s : Store) → Untouched s s
 unmoved s = untouched s (s .table) (s .queue) (s .scratch) (framed-refl (s .table)) refl refl
 
-scratch-room : (s : Store) → scratchEnough (s .table) (s .scratch) ≡ true → capacity (s .table) ≤ length (s .scratch)
+scratch-room : (s : Store) → scratchEnough (s .table) (s .scratch) ≡ true → scratchWords (capacity (s .table)) ≤ length (s .scratch)
 unfolding scratchEnough
-scratch-room s h = leb-true (capacity (s .table)) (length (s .scratch)) h
+scratch-room s h = leb-true (scratchWords (capacity (s .table))) (length (s .scratch)) h
 
 untouched-step : (s : Store) (ps : List Packet) → AllYes (early s step) → Untouched s (stepFrom s ps .after)
 unfolding stepFrom stepWith early
@@ -174,10 +166,10 @@ untouched-step s (p ∷ ps) h =
     let u = applyChanges t (changes p) in
     let shape = shape-is t (s .queue) (h .0) in
     let c = framed-changes t (changes p) in
-    let w = framed-swept u ps (rw (c .0 .sameCapacity, c .0 .sameLength) (shape .room)) (rw (c .1, c .0 .sameCapacity) (shape .last)) in
-    untouched s (swept u (unreached u ps)) _ (cleared (capacity u) (s .scratch)) (framed-trans t u (swept u (unreached u ps)) (c .0) w)
-    (rw (c .0 .sameCapacity) (length-cleared (capacity t) (s .scratch) (scratch-room s (h .1 .0))))
-    (rw (c .0 .sameCapacity) (drop-cleared (capacity t) (s .scratch)))
+    let w = framed-swept u ps (rw (c .0 .sameCapacity, c .0 .sameLength) (shape .table .room)) (rw (c .1, c .0 .sameCapacity) (shape .table .last)) in
+    untouched s (swept u (unreached u ps)) _ (cleared (scratchWords (capacity u)) (s .scratch)) (framed-trans t u (swept u (unreached u ps)) (c .0) w)
+    (rw (c .0 .sameCapacity) (length-cleared (scratchWords (capacity t)) (s .scratch) (scratch-room s (h .1 .0))))
+    (rw (c .0 .sameCapacity) (past-cleared (scratchWords (capacity t)) (s .scratch)))
 
 pub bounded-accepted : (s : Store) (call : Call) → AllYes (early s call) → Bounded call s (accepted s call .after)
 unfolding accepted stepped audited early
@@ -185,8 +177,8 @@ bounded-accepted s (fresh c) h = tt
 bounded-accepted s (row r) h = untouched s (written (s .table) r) _ (s .scratch) (framed-written s r h) refl refl
 bounded-accepted s step h = untouched-step s (waiting (s .queue)) h
 bounded-accepted s audit h =
-    untouched s (s .table) _ (cleared (capacity (s .table)) (s .scratch)) (framed-refl (s .table))
-    (length-cleared (capacity (s .table)) (s .scratch) (scratch-room s (h .1 .0))) (drop-cleared (capacity (s .table)) (s .scratch))
+    untouched s (s .table) _ (cleared (scratchWords (capacity (s .table))) (s .scratch)) (framed-refl (s .table))
+    (length-cleared (scratchWords (capacity (s .table))) (s .scratch) (scratch-room s (h .1 .0))) (past-cleared (scratchWords (capacity (s .table))) (s .scratch))
 
 pub bounded-same : (s : Store) (call : Call) → Bounded call s s
 bounded-same s (fresh c) = tt
@@ -210,10 +202,23 @@ kept-bounded s call = go (firstNo (questions s call)) refl
     go zero e = rw (machine-accepted s call e) (bounded-accepted s call (early-yes s call e))
     go (suc k) e = rw (machine-refused s call k e) (bounded-same s call)
 
+-- the machine's own answer is what a call gives, and the other way round
+machine-gives : (s : Store) (call : Call) → Gives s call (machine s call .reply) (machine s call .after)
+machine-gives s (fresh c) = (refl, refl)
+machine-gives s (row r) = (refl, refl)
+machine-gives s step = (refl, refl)
+machine-gives s audit = (refl, refl)
+
+pub gives-machine : (s : Store) (call : Call) (r : Reply) (after : Store) → Gives s call r after → ByMachine s call r after
+gives-machine s (fresh c) r after g = g
+gives-machine s (row k) r after g = g
+gives-machine s step r after g = g
+gives-machine s audit r after g = g
+
 pub kept : (s : Store) (call : Call) → Promise s call (machine s call .reply) (machine s call .after)
 kept s call = record {
   asked = kept-asked s call;
   refusal = kept-refusal s call;
-  exact = λ _. (refl, refl);
+  exact = λ _. machine-gives s call;
   bounded = kept-bounded s call;
 }

@@ -1,5 +1,7 @@
 -- The laws of the machine's definition, and the worked cases.
 pub mod Range
+pub mod Lists
+pub mod Scratch
 pub mod Words
 pub mod Table
 pub mod Ring
@@ -12,6 +14,7 @@ pub mod Sweep
 pub mod Commute
 pub mod Select
 pub mod Fresh
-pub mod Asked
+pub mod Questions
 pub mod Kept
+pub mod Computes
 pub mod Cases

@@ -16,7 +16,7 @@ use Rattle.machine.specs.Reached.{Reached, reached}
 use Rattle.machine.specs.Step.{unreached}
 use Rattle.machine.specs.Facts.{Ascending, Dead}
 use Rattle.machine.proofs.Range.{tested, not-both, below-suc, lt-or-ge, or-true, or-left, or-right, and-both, and-first, and-second, matching-same, matching-other, occurrences-append}
-use Rattle.machine.proofs.Chain.{Places}
+use Rattle.machine.proofs.Lists.{Places}
 use Rattle.machine.proofs.Reached.{reached-is}
 
 contains-append : (xs ys : List ℕ) (i : ℕ) → contains (xs ++ ys) i ≡ contains xs i || contains ys i

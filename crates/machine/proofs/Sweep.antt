@@ -11,16 +11,16 @@ use lib.ListN.{length, drop}
 use lib.Seq.{append-snoc}
 use borrow.Author.Tests.{eqb-true, eqb-false, eq-eqb, ne-eqb}
 use Rattle.machine.specs.Range.{matching, occurrences, lastOf, select}
-use Rattle.machine.specs.Table.{stride, left, right, rootCount, cellCount, state, capacity, firstFree, lastFree, tableLength, wordAt, putWord, putEnds, putCell, inUse}
+use Rattle.machine.specs.Table.{stride, left, right, cellCount, freeCell, capacity, firstFree, lastFree, tableLength, wordAt, putWord, putEnds, putCell, inUse}
 use Rattle.machine.specs.Queue.{Packet}
 use Rattle.machine.specs.Packets.{cell, minus, contains}
 use Rattle.machine.specs.Reached.{reached}
 use Rattle.machine.specs.Step.{moveCount, unreached, lowerPointers, join, joinAll, swept}
 use Rattle.machine.specs.Facts.{Linked, pointersOut, Sweep}
 use Rattle.machine.proofs.Range.{tested, not-both, occurrences-append, or-true, or-left, or-right, or-false, and-both, and-first, and-second, below-suc, matching-same, matching-other}
-use Rattle.machine.proofs.Table.{Inside, each-word, inside-putCell, cell-left, cell-right, cell-root, cell-cell, cell-state, cell-other, capacity-putCell, firstFree-putCell, lastFree-putCell, past-putCell, room, word-same, word-other, length-putWord, length-putEnds, length-putCell, capacity-putWord, capacity-putEnds, firstFree-putWord, firstFree-putEnds, lastFree-putWord, lastFree-putEnds, word-putEnds, past-putWord, past-putEnds}
+use Rattle.machine.proofs.Table.{Inside, inside-putCell, cell-word, free-word, cell-other, capacity-putCell, firstFree-putCell, lastFree-putCell, past-putCell, room, word-same, word-other, length-putWord, length-putEnds, length-putCell, capacity-putWord, capacity-putEnds, firstFree-putWord, firstFree-putEnds, lastFree-putWord, lastFree-putEnds, word-putEnds, past-putWord, past-putEnds}
 use Rattle.machine.proofs.Moves.{length-move, capacity-move, firstFree-move, lastFree-move, past-move, word-move, count-move}
-use Rattle.machine.proofs.Chain.{Places}
+use Rattle.machine.proofs.Lists.{contains-cons, lastOf-snoc, last-occurs, Places}
 
 -- two tables alike but for the cell counts
 pub record SameButCounts (t t′ : List ℕ) : Type 0 where
@@ -94,17 +94,6 @@ count-lower t (i ∷ is) f j l =
     omega (arith, out-same t (lowerBoth t i) is (suc j) h)
 
 -- the chain with one place more at its end
-lastOf-snoc : (xs : List ℕ) (i : ℕ) → lastOf (map suc (xs ++ (i ∷ []))) ≡ suc i
-unfolding lastOf
-lastOf-snoc [] i = refl
-lastOf-snoc (x ∷ []) i = refl
-lastOf-snoc (x ∷ y ∷ ys) i = lastOf-snoc (y ∷ ys) i
-
-last-occurs : (y : ℕ) (ys : List ℕ) (z : ℕ) → lastOf (map suc (y ∷ ys)) ≡ suc z → 1 ≤ occurrences z (y ∷ ys)
-unfolding lastOf occurrences
-last-occurs y [] z e = omega (arith, matching-same y z 1 (omega arith))
-last-occurs y (x ∷ ys) z e = omega (arith, last-occurs x ys z e)
-
 last-some : (y : ℕ) (ys : List ℕ) → lastOf (map suc (y ∷ ys)) ≢ 0
 unfolding lastOf
 last-some y [] e = omega arith
@@ -136,7 +125,7 @@ module _ (t t′ : List ℕ) (i : ℕ) (sameCapacity : capacity t′ ≡ capacit
           new-occurs = rw (← e) (occurs-first x [])
 
       not-last : suc x ≢ lastOf (map suc (y ∷ ys))
-      not-last e = omega (arith, once x, occurrences-cons x x (y ∷ ys), matching-same x x 1 refl, last-occurs y ys x (sym e))
+      not-last e = omega (arith, once x, occurrences-cons x x (y ∷ ys), matching-same x x 1 refl, last-occurs (y ∷ ys) x (sym e))
 
       later : (j : ℕ) → occurrences j (y ∷ ys) + occurrences j (i ∷ []) ≤ 1
       later j = omega (arith, once j, occurrences-cons j x (y ∷ ys))
@@ -155,7 +144,7 @@ pub record Joins (t : List ℕ) (i : ℕ) (t′ : List ℕ) : Type 0 where
 
 module _ (t : List ℕ) (i : ℕ) (f : tableLength (capacity t) ≤ length t) (l : i < capacity t) (b : lastFree t ≤ capacity t) where
   abbrev wipe : List ℕ
-  wipe = putCell t i 0 0 0 0 0
+  wipe = putCell t i (freeCell 0)
 
   abbrev link : List ℕ
   link = putWord wipe (pred (lastFree t)) left (suc i)
@@ -175,21 +164,20 @@ module _ (t : List ℕ) (i : ℕ) (f : tableLength (capacity t) ≤ length t) (l
   long = omega arith
 
   wipe-zero : (k : ℕ) → k < stride → wordAt wipe i k ≡ 0
-  wipe-zero =
-      each-word (λ k. wordAt wipe i k ≡ 0) (cell-left t i 0 0 0 0 0 inside) (cell-right t i 0 0 0 0 0 inside) (cell-root t i 0 0 0 0 0 inside)
-      (cell-cell t i 0 0 0 0 0 inside) (cell-state t i 0 0 0 0 0 inside)
+  wipe-zero zero l = cell-word t i (freeCell 0) refl inside zero l
+  wipe-zero (suc k) l = cell-word t i (freeCell 0) refl inside (suc k) l ∙ free-word 0 (suc k) (omega arith) l
 
   joins-none : eqb (lastFree t) 0 ≡ true → Joins t i (putEnds wipe (suc i) (suc i))
   joins-none e = record {
-    sameLength = length-putEnds wipe (suc i) (suc i) ∙ length-putCell t i 0 0 0 0 0;
-    sameCapacity = capacity-putEnds wipe (suc i) (suc i) ∙ capacity-putCell t i 0 0 0 0 0;
-    pastCells = past-putEnds wipe (capacity t) (suc i) (suc i) ∙ past-putCell t (capacity t) i 0 0 0 0 0 l;
+    sameLength = length-putEnds wipe (suc i) (suc i) ∙ length-putCell t i (freeCell 0);
+    sameCapacity = capacity-putEnds wipe (suc i) (suc i) ∙ capacity-putCell t i (freeCell 0) refl;
+    pastCells = past-putEnds wipe (capacity t) (suc i) (suc i) ∙ past-putCell t (capacity t) i (freeCell 0) refl l;
     newLast = lastFree-putEnds wipe (suc i) (suc i) (rw length-putCell long);
     newFirst = λ _. firstFree-putEnds wipe (suc i) (suc i) (rw length-putCell long);
     sameFirst = λ d. absurd (d (eqb-true (lastFree t) 0 e));
     wiped = λ k m _. word-putEnds wipe (suc i) (suc i) i k ∙ wipe-zero k m;
     linkedOn = λ j d. absurd (omega (arith, eqb-true (lastFree t) 0 e));
-    stands = λ j k m d _. word-putEnds wipe (suc i) (suc i) j k ∙ cell-other t i 0 0 0 0 0 j k m (λ x. d (sym x));
+    stands = λ j k m d _. word-putEnds wipe (suc i) (suc i) j k ∙ cell-other t i (freeCell 0) refl j k m (λ x. d (sym x));
   }
 
   module _ (e : eqb (lastFree t) 0 ≡ false) where
@@ -200,16 +188,16 @@ module _ (t : List ℕ) (i : ℕ) (f : tableLength (capacity t) ≤ length t) (l
     end-below = omega (arith, some)
 
     end-inside : Inside wipe (pred (lastFree t))
-    end-inside = inside-putCell t i 0 0 0 0 0 (pred (lastFree t)) (room t (capacity t) (pred (lastFree t)) f end-below)
+    end-inside = inside-putCell t i (freeCell 0) (pred (lastFree t)) (room t (capacity t) (pred (lastFree t)) f end-below)
 
     joins-some : Joins t i (putEnds link (firstFree t) (suc i))
     joins-some = record {
-      sameLength = length-putEnds link (firstFree t) (suc i) ∙ length-putWord wipe (pred (lastFree t)) left (suc i) ∙ length-putCell t i 0 0 0 0 0;
-      sameCapacity = capacity-putEnds link (firstFree t) (suc i) ∙ capacity-putWord wipe (pred (lastFree t)) left (suc i) ∙ capacity-putCell t i 0 0 0 0 0;
+      sameLength = length-putEnds link (firstFree t) (suc i) ∙ length-putWord wipe (pred (lastFree t)) left (suc i) ∙ length-putCell t i (freeCell 0);
+      sameCapacity = capacity-putEnds link (firstFree t) (suc i) ∙ capacity-putWord wipe (pred (lastFree t)) left (suc i) ∙ capacity-putCell t i (freeCell 0) refl;
       pastCells =
           past-putEnds link (capacity t) (firstFree t) (suc i)
           ∙ past-putWord wipe (capacity t) (pred (lastFree t)) left (suc i) end-below (omega arith)
-          ∙ past-putCell t (capacity t) i 0 0 0 0 0 l;
+          ∙ past-putCell t (capacity t) i (freeCell 0) refl l;
       newLast = lastFree-putEnds link (firstFree t) (suc i) (rw (length-putWord, length-putCell) long);
       newFirst = λ d. absurd (some d);
       sameFirst = λ _. firstFree-putEnds link (firstFree t) (suc i) (rw (length-putWord, length-putCell) long);
@@ -221,7 +209,7 @@ module _ (t : List ℕ) (i : ℕ) (f : tableLength (capacity t) ≤ length t) (l
           ∙ word-same wipe (pred (lastFree t)) left (suc i) end-inside (omega arith);
       stands = λ j k m d c. word-putEnds link (firstFree t) (suc i) j k
           ∙ word-other wipe (pred (lastFree t)) left (suc i) j k (omega arith) m (λ x y. c (sym y) (omega (arith, some)))
-          ∙ cell-other t i 0 0 0 0 0 j k m (λ x. d (sym x));
+          ∙ cell-other t i (freeCell 0) refl j k m (λ x. d (sym x));
     }
 
   pub joins : Joins t i (join t i)
@@ -240,11 +228,7 @@ module _ (t : List ℕ) (i : ℕ) (f : tableLength (capacity t) ≤ length t) (l
   )
     where
       not-last : suc i ≢ lastFree t
-      not-last d = omega (arith, last-occurs x xs i (e ∙ sym d), once i, occurs-first i [])
-
-contains-cons : (is : List ℕ) (i j : ℕ) → contains (i ∷ is) j ≡ eqb i j || contains is j
-unfolding contains
-contains-cons is i j = refl
+      not-last d = omega (arith, last-occurs (x ∷ xs) i (e ∙ sym d), once i, occurs-first i [])
 
 contains-none : (i : ℕ) → contains [] i ≡ true → ⊥
 unfolding contains
@@ -259,13 +243,13 @@ pub record JoinsAll (t : List ℕ) (dead : List ℕ) (t′ : List ℕ) : Type 0 
   pub sameLength : length t′ ≡ length t
   pub sameCapacity : capacity t′ ≡ capacity t
   pub pastCells : drop (tableLength (capacity t)) t′ ≡ drop (tableLength (capacity t)) t
-  pub freed : (i k : ℕ) → contains dead i ≡ true → right ≤ k → k ≤ state → wordAt t′ i k ≡ 0
+  pub freed : (i k : ℕ) → contains dead i ≡ true → right ≤ k → k < stride → wordAt t′ i k ≡ 0
   pub stands : (i k : ℕ) → k < stride → contains dead i ≡ false → (k ≡ left → suc i ≢ lastFree t) → wordAt t′ i k ≡ wordAt t i k
   pub joined : (is : List ℕ) → Linked t (firstFree t) is → lastOf (map suc is) ≡ lastFree t → ((i : ℕ) → occurrences i is + occurrences i dead ≤ 1)
       → Linked t′ (firstFree t′) (is ++ dead) × (lastOf (map suc (is ++ dead)) ≡ lastFree t′)
 
 module _ (t u v : List ℕ) (i : ℕ) (dead : List ℕ) (j : Joins t i u) (a : JoinsAll u dead v) where
-  freed-then : (x k : ℕ) → contains (i ∷ dead) x ≡ true → right ≤ k → k ≤ state → wordAt v x k ≡ 0
+  freed-then : (x k : ℕ) → contains (i ∷ dead) x ≡ true → right ≤ k → k < stride → wordAt v x k ≡ 0
   freed-then x k m low high = ⊎-elim (λ e. a .freed x k e low high) here (tested (contains dead x))
     where
       here : contains dead x ≡ false → wordAt v x k ≡ 0

@@ -2,17 +2,17 @@
 use mathlib.Core.Path.{_≡_, refl, ap, _∙_}
 use mathlib.Core.Logic.{_⊎_, inl, inr, ⊎-elim}
 use mathlib.Core.Bool.{Bool, true, false, cond, _&&_}
-use mathlib.Core.List.{List}
-use Prim.Native.Nat.{ℕ, zero, suc, _+_, _*_, _≤_, _<_}
+use mathlib.Core.List.{List, [], _∷_}
+use Prim.Native.Nat.{ℕ, zero, suc, pred, _+_, _*_, _≤_, _<_}
 use native.Mathlib.Omega.{arith}
 use lib.Dec.{eqb}
-use lib.ListN.{length, getD, set, drop, length-set}
+use lib.ListN.{length, getD, set, drop, length-set, getD-replicate}
 use lib.Seq.{getD-set-same, getD-set-other, drop-set-lt, set-getD}
-use Rattle.machine.specs.Table.{stride, header, left, right, rootCount, cellCount, state, capacity, firstFree, lastFree, tableLength, position, wordAt, putWord, putEnds, putCell, inUse, isFree}
+use Rattle.machine.specs.Table.{stride, header, left, right, rootCount, cellCount, state, capacity, firstFree, lastFree, tableLength, freeCell, position, wordAt, putWord, putEnds, putWords, putCell, inUse, isFree}
 use borrow.Author.Tests.{eqb-true, eqb-false, not-true}
 use Rattle.machine.proofs.Range.{tested}
 
--- the place i has its five words in the table t
+-- the place i has its words in the table t
 pub Inside : List ℕ → ℕ → Type 0
 Inside t i = tableLength (suc i) ≤ length t
 
@@ -34,9 +34,14 @@ pub length-putEnds : (t : List ℕ) (f l : ℕ) → length (putEnds t f l) ≡ l
 unfolding putEnds
 length-putEnds t f l = simp length-set
 
-pub length-putCell : (t : List ℕ) (i l r n m s : ℕ) → length (putCell t i l r n m s) ≡ length t
+length-putWords : (t : List ℕ) (i k : ℕ) (vs : List ℕ) → length (putWords t i k vs) ≡ length t
+unfolding putWords
+length-putWords t i k [] = refl
+length-putWords t i k (v ∷ vs) = length-putWords (putWord t i k v) i (suc k) vs ∙ length-putWord t i k v
+
+pub length-putCell : (t : List ℕ) (i : ℕ) (ws : List ℕ) → length (putCell t i ws) ≡ length t
 unfolding putCell
-length-putCell t i l r n m s = simp length-putWord
+length-putCell t i ws = length-putWords t i left ws
 
 -- what is read where it was written, and elsewhere
 pub word-same : (t : List ℕ) (i k v : ℕ) → Inside t i → k < stride → wordAt (putWord t i k v) i k ≡ v
@@ -117,91 +122,60 @@ pub inside-put : (t : List ℕ) (i k v j : ℕ) → Inside t j → Inside (putWo
 unfolding Inside
 inside-put t i k v j f = rw length-putWord f
 
--- another word of the same cell
-other-word : (t : List ℕ) (i k v m : ℕ) → k < stride → m < stride → (k ≡ m → ⊥) → wordAt (putWord t i k v) i m ≡ wordAt t i m
-other-word t i k v m hk hm d = word-other t i k v i m hk hm (λ _. d)
+-- what each write of a word of the cell keeps, writing several of its words keeps
+words-keep : (P : List ℕ → Type 0) (t : List ℕ) (i k : ℕ) (vs : List ℕ) → k + length vs ≤ stride
+    → ((u : List ℕ) (m v : ℕ) → k ≤ m → m < stride → P u → P (putWord u i m v)) → P t → P (putWords t i k vs)
+unfolding putWords
+words-keep P t i k [] l f h = h
+words-keep P t i k (v ∷ vs) l f h =
+    words-keep P (putWord t i k v) i (suc k) vs (omega arith) (λ u m w low high. f u m w (omega arith) high) (f t k v (omega arith) (omega arith) h)
 
--- a whole cell written: its five words, and another cell's
-module _ (t : List ℕ) (i l r n m s : ℕ) (f : Inside t i) where
-  abbrev t₁ : List ℕ
-  t₁ = putWord t i left l
+-- a cell's words written from word k on: each is read back
+words-at : (t : List ℕ) (i k : ℕ) (vs : List ℕ) → k + length vs ≤ stride → Inside t i → (m : ℕ) → m < length vs → wordAt (putWords t i k vs) i (k + m) ≡ getD vs m 0
+unfolding putWords
+words-at t i k [] l f m n = absurd (omega arith)
+words-at t i k (v ∷ vs) l f zero n =
+    ap (wordAt (putWords (putWord t i k v) i (suc k) vs) i) (omega arith)
+    ∙ words-keep (λ u. wordAt u i k ≡ v) (putWord t i k v) i (suc k) vs (omega arith)
+    (λ u m w low high e. word-other u i m w i k high (omega arith) (λ _ x. omega arith) ∙ e) (word-same t i k v f (omega arith))
+words-at t i k (v ∷ vs) l f (suc m) n =
+    ap (wordAt (putWords (putWord t i k v) i (suc k) vs) i) (omega arith)
+    ∙ words-at (putWord t i k v) i (suc k) vs (omega arith) (inside-put t i k v i f) m (omega arith)
 
-  abbrev t₂ : List ℕ
-  t₂ = putWord t₁ i right r
-
-  abbrev t₃ : List ℕ
-  t₃ = putWord t₂ i rootCount n
-
-  abbrev t₄ : List ℕ
-  t₄ = putWord t₃ i cellCount m
-
-  f₁ : Inside t₁ i
-  f₁ = inside-put t i left l i f
-
-  f₂ : Inside t₂ i
-  f₂ = inside-put t₁ i right r i f₁
-
-  f₃ : Inside t₃ i
-  f₃ = inside-put t₂ i rootCount n i f₂
-
-  pub cell-state : wordAt (putCell t i l r n m s) i state ≡ s
-  unfolding putCell
-  cell-state = word-same t₄ i state s (inside-put t₃ i cellCount m i f₃) (omega arith)
-
-  pub cell-cell : wordAt (putCell t i l r n m s) i cellCount ≡ m
-  unfolding putCell
-  cell-cell = other-word t₄ i state s cellCount (omega arith) (omega arith) (omega arith) ∙ word-same t₃ i cellCount m f₃ (omega arith)
-
-  pub cell-root : wordAt (putCell t i l r n m s) i rootCount ≡ n
-  unfolding putCell
-  cell-root =
-      other-word t₄ i state s rootCount (omega arith) (omega arith) (omega arith)
-      ∙ other-word t₃ i cellCount m rootCount (omega arith) (omega arith) (omega arith)
-      ∙ word-same t₂ i rootCount n f₂ (omega arith)
-
-  pub cell-right : wordAt (putCell t i l r n m s) i right ≡ r
-  unfolding putCell
-  cell-right =
-      other-word t₄ i state s right (omega arith) (omega arith) (omega arith)
-      ∙ other-word t₃ i cellCount m right (omega arith) (omega arith) (omega arith)
-      ∙ other-word t₂ i rootCount n right (omega arith) (omega arith) (omega arith)
-      ∙ word-same t₁ i right r f₁ (omega arith)
-
-  pub cell-left : wordAt (putCell t i l r n m s) i left ≡ l
-  unfolding putCell
-  cell-left =
-      other-word t₄ i state s left (omega arith) (omega arith) (omega arith)
-      ∙ other-word t₃ i cellCount m left (omega arith) (omega arith) (omega arith)
-      ∙ other-word t₂ i rootCount n left (omega arith) (omega arith) (omega arith)
-      ∙ other-word t₁ i right r left (omega arith) (omega arith) (omega arith)
-      ∙ word-same t i left l f (omega arith)
-
--- what each write of a word of the cell keeps, writing the whole cell keeps
-cell-keeps : (P : List ℕ → Type 0) (t : List ℕ) (i l r n m s : ℕ) → ((u : List ℕ) (k v : ℕ) → k < stride → P u → P (putWord u i k v)) → P t → P (putCell t i l r n m s)
+-- a whole cell written: its words, and another cell's
+pub cell-word : (t : List ℕ) (i : ℕ) (ws : List ℕ) → length ws ≡ stride → Inside t i → (k : ℕ) → k < stride → wordAt (putCell t i ws) i k ≡ getD ws k 0
 unfolding putCell
-cell-keeps P t i l r n m s f h =
-    f _ state s (omega arith) (f _ cellCount m (omega arith) (f _ rootCount n (omega arith) (f _ right r (omega arith) (f t left l (omega arith) h))))
+cell-word t i ws e f k l = ap (wordAt (putWords t i left ws) i) (omega arith) ∙ words-at t i left ws (omega arith) f k (omega arith)
 
-pub cell-other : (t : List ℕ) (i l r n m s j k : ℕ) → k < stride → (i ≡ j → ⊥) → wordAt (putCell t i l r n m s) j k ≡ wordAt t j k
-cell-other t i l r n m s j k hk d =
-    cell-keeps (λ u. wordAt u j k ≡ wordAt t j k) t i l r n m s (λ u k′ v hk′ e. word-other u i k′ v j k hk′ hk (λ x _. d x) ∙ e) refl
+cell-keeps : (P : List ℕ → Type 0) (t : List ℕ) (i : ℕ) (ws : List ℕ) → length ws ≡ stride → ((u : List ℕ) (k v : ℕ) → k < stride → P u → P (putWord u i k v)) → P t → P (putCell t i ws)
+unfolding putCell
+cell-keeps P t i ws e f h = words-keep P t i left ws (omega arith) (λ u m v _ high. f u m v high) h
 
-pub capacity-putCell : (t : List ℕ) (i l r n m s : ℕ) → capacity (putCell t i l r n m s) ≡ capacity t
-capacity-putCell t i l r n m s = cell-keeps (λ u. capacity u ≡ capacity t) t i l r n m s (λ u k v hk e. capacity-putWord u i k v ∙ e) refl
+pub cell-other : (t : List ℕ) (i : ℕ) (ws : List ℕ) → length ws ≡ stride → (j k : ℕ) → k < stride → (i ≡ j → ⊥) → wordAt (putCell t i ws) j k ≡ wordAt t j k
+cell-other t i ws e j k hk d =
+    cell-keeps (λ u. wordAt u j k ≡ wordAt t j k) t i ws e (λ u k′ v hk′ g. word-other u i k′ v j k hk′ hk (λ x _. d x) ∙ g) refl
 
-pub firstFree-putCell : (t : List ℕ) (i l r n m s : ℕ) → firstFree (putCell t i l r n m s) ≡ firstFree t
-firstFree-putCell t i l r n m s = cell-keeps (λ u. firstFree u ≡ firstFree t) t i l r n m s (λ u k v hk e. firstFree-putWord u i k v ∙ e) refl
+pub capacity-putCell : (t : List ℕ) (i : ℕ) (ws : List ℕ) → length ws ≡ stride → capacity (putCell t i ws) ≡ capacity t
+capacity-putCell t i ws e = cell-keeps (λ u. capacity u ≡ capacity t) t i ws e (λ u k v hk g. capacity-putWord u i k v ∙ g) refl
 
-pub lastFree-putCell : (t : List ℕ) (i l r n m s : ℕ) → lastFree (putCell t i l r n m s) ≡ lastFree t
-lastFree-putCell t i l r n m s = cell-keeps (λ u. lastFree u ≡ lastFree t) t i l r n m s (λ u k v hk e. lastFree-putWord u i k v ∙ e) refl
+pub firstFree-putCell : (t : List ℕ) (i : ℕ) (ws : List ℕ) → length ws ≡ stride → firstFree (putCell t i ws) ≡ firstFree t
+firstFree-putCell t i ws e = cell-keeps (λ u. firstFree u ≡ firstFree t) t i ws e (λ u k v hk g. firstFree-putWord u i k v ∙ g) refl
 
-pub past-putCell : (t : List ℕ) (c i l r n m s : ℕ) → i < c → drop (tableLength c) (putCell t i l r n m s) ≡ drop (tableLength c) t
-past-putCell t c i l r n m s h =
-    cell-keeps (λ u. drop (tableLength c) u ≡ drop (tableLength c) t) t i l r n m s (λ u k v hk e. past-putWord u c i k v h hk ∙ e) refl
+pub lastFree-putCell : (t : List ℕ) (i : ℕ) (ws : List ℕ) → length ws ≡ stride → lastFree (putCell t i ws) ≡ lastFree t
+lastFree-putCell t i ws e = cell-keeps (λ u. lastFree u ≡ lastFree t) t i ws e (λ u k v hk g. lastFree-putWord u i k v ∙ g) refl
 
-pub inside-putCell : (t : List ℕ) (i l r n m s j : ℕ) → Inside t j → Inside (putCell t i l r n m s) j
+pub past-putCell : (t : List ℕ) (c i : ℕ) (ws : List ℕ) → length ws ≡ stride → i < c → drop (tableLength c) (putCell t i ws) ≡ drop (tableLength c) t
+past-putCell t c i ws e h =
+    cell-keeps (λ u. drop (tableLength c) u ≡ drop (tableLength c) t) t i ws e (λ u k v hk g. past-putWord u c i k v h hk ∙ g) refl
+
+pub inside-putCell : (t : List ℕ) (i : ℕ) (ws : List ℕ) (j : ℕ) → Inside t j → Inside (putCell t i ws) j
 unfolding Inside
-inside-putCell t i l r n m s j f = rw length-putCell f
+inside-putCell t i ws j f = rw length-putCell f
+
+-- a free cell's words behind left are 0
+pub free-word : (next k : ℕ) → right ≤ k → k < stride → getD (freeCell next) k 0 ≡ 0
+free-word next zero l h = absurd (omega arith)
+free-word next (suc k) l h = getD-replicate (pred stride) k 0 0 (omega arith)
 
 -- a word written by what stands there: a replace of a word by itself writes nothing new
 pub put-itself : (t : List ℕ) (i k : ℕ) → putWord t i k (wordAt t i k) ≡ t

@@ -2,6 +2,8 @@
 use Prim.Native.Nat.{ℕ}
 use Rattle.machine.specs.declared.Refusal.{Refusal}
 use Rattle.machine.specs.declared.Refusal.the-variants.{StoreOutOfRange, ScratchTooShort, NumberOutOfRange, IllegalWord, NotACell, NotHeld, QueueFull, NoFreeCell, HeldCountTooHigh, TooManyPointers}
+use Rattle.machine.specs.declared.Asked
+use Rattle.machine.specs.declared.Asked.{Asked}
 use Rattle.machine.specs.declared.RowAnswer
 use Rattle.machine.specs.declared.RowAnswer.{RowAnswer}
 use Rattle.machine.specs.declared.FreshAnswer
@@ -26,6 +28,11 @@ refusalNumber QueueFull = 7
 refusalNumber NoFreeCell = 8
 refusalNumber HeldCountTooHigh = 9
 refusalNumber TooManyPointers = 10
+
+-- the first "no" of a call's questions, or 0
+abbrev pub askedNumber : Asked → ℕ
+askedNumber Asked.Yes = 0
+askedNumber (Asked.No r) = refusalNumber r
 
 -- the rule broken
 abbrev pub ruleNumber : Rule → ℕ

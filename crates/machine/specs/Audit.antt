@@ -7,7 +7,7 @@ use lib.Dec.{leb, eqb}
 use Rattle.machine.specs.declared.Queue.{Queue}
 use Rattle.machine.specs.Range.{every, everyOf, occurrences, lastOf}
 use Rattle.machine.specs.Words.{isNil, isCell, isAtom, isLegal, ceiling}
-use Rattle.machine.specs.Table.{left, right, rootCount, cellCount, state, capacity, firstFree, lastFree, wordAt, putWord, inUse, isFree}
+use Rattle.machine.specs.Table.{left, right, rootCount, cellCount, state, capacity, firstFree, lastFree, scratchWords, wordAt, putWord, inUse, isFree}
 use Rattle.machine.specs.Queue.{Packet, slots, slot, waiting}
 use Rattle.machine.specs.Packets.{Kind, reads, makes, replaces, raises, lowers, unknown, kindOf, root, plus, minus, changes, movedBy, names, uses}
 use Rattle.machine.specs.Counts.{pointers}
@@ -152,7 +152,7 @@ auditReply (suc n) = broken (suc n)
 
 unfoldable pub audited : Store → Outcome
 audited s =
-    outcome (auditReply (firstNo (rules (s .table) (s .queue)))) (store (s .table) (s .queue) (cleared (capacity (s .table)) (s .scratch)))
+    outcome (auditReply (firstNo (rules (s .table) (s .queue)))) (store (s .table) (s .queue) (cleared (scratchWords (capacity (s .table))) (s .scratch)))
 
 -- a sound store: question 1 holds and so do the five rules
 pub record Sound (t : List ℕ) (q : Queue) : Type 0 where

@@ -1,11 +1,11 @@
 -- The calls, their replies, and what an accepted fresh or row call does (source 001's P1 to P5, figure 7, as document 01 amends them).
 use mathlib.Core.Bool.{cond}
-use mathlib.Core.List.{List}
+use mathlib.Core.List.{List, [], _∷_}
 use Prim.Native.Nat.{ℕ, zero, suc, pred}
 use lib.Dec.{eqb}
 use lib.ListN.{set}
 use Rattle.machine.specs.declared.Queue.{Queue}
-use Rattle.machine.specs.Table.{left, right, firstFree, lastFree, wordAt, putWord, putEnds, putCell}
+use Rattle.machine.specs.Table.{left, right, firstFree, lastFree, wordAt, putWord, newCell, freeCell, putEnds, putCell}
 use Rattle.machine.specs.Queue.{Packet, packet}
 
 pub data RowCall : Type 0 where
@@ -55,17 +55,21 @@ packetOf t (setRight x y) = packet 6 y (field t x right) x
 packetOf t (up x n) = packet 4 x n 0
 packetOf t (down x n) = packet 5 x n 0
 
+-- the packets that an accepted row call queues
+abbrev pub packetsOf : List ℕ → RowCall → List Packet
+packetsOf t r = packetOf t r ∷ []
+
 -- remove_cell: the first free cell leaves the chain; the last one leaves both ends 0
 unfoldable pub withoutFirst : List ℕ → List ℕ
 withoutFirst t =
     let next = field t (firstFree t) left in
     putEnds t next (cond (eqb next 0) 0 (lastFree t))
 
--- fields are written during the call; a new cell gets both operands, root count 1 and cell count 0
+-- fields are written during the call; a new cell gets both operands
 unfoldable pub written : List ℕ → RowCall → List ℕ
 written t (car x) = t
 written t (cdr x) = t
-written t (cons x y) = putCell (withoutFirst t) (pred (firstFree t)) x y 1 0 1
+written t (cons x y) = putCell (withoutFirst t) (pred (firstFree t)) (newCell x y)
 written t (setLeft x y) = putWord t (pred x) left y
 written t (setRight x y) = putWord t (pred x) right y
 written t (up x n) = t
@@ -84,7 +88,7 @@ valueOf t (down x n) = 0
 -- the first n cells as a chain, of c in all
 unfoldable pub chained : ℕ → ℕ → List ℕ → List ℕ
 chained c zero t = t
-chained c (suc i) t = putCell (chained c i t) i (cond (eqb (suc i) c) 0 (suc (suc i))) 0 0 0 0
+chained c (suc i) t = putCell (chained c i t) i (freeCell (cond (eqb (suc i) c) 0 (suc (suc i))))
 
 -- fresh: C in the header, the chain 1 to C; words past the cells stand
 unfoldable pub freshTable : ℕ → List ℕ → List ℕ

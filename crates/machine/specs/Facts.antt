@@ -1,4 +1,4 @@
--- What the audit's tests S2, S3 and S4, the step's sweep and fresh mean, as plain facts over lists. That they say just this is proved in proofs/.
+-- What questions 1 and 2, the audit's tests S2, S3 and S4, the step's sweep and fresh mean, as plain facts. That they say just this is proved in proofs/.
 use mathlib.Core.Path.{_≡_}
 use mathlib.Core.Logic.{_≢_, _↔_}
 use mathlib.Core.Bool.{true, false, cond}
@@ -6,13 +6,37 @@ use mathlib.Core.List.{List, [], _∷_, _++_, map}
 use Prim.Native.Nat.{ℕ, suc, _+_, _-_, _≤_, _<_}
 use lib.ListN.{length, drop}
 use Rattle.machine.specs.Range.{matching, occurrences, lastOf}
-use Rattle.machine.specs.Words.{ceiling}
-use Rattle.machine.specs.Table.{stride, left, right, cellCount, state, capacity, firstFree, lastFree, tableLength, wordAt, inUse, isFree}
-use Rattle.machine.specs.Queue.{Packet}
+use Rattle.machine.specs.declared.Queue.{Queue}
+use Rattle.machine.specs.Words.{ceiling, mostCells}
+use Rattle.machine.specs.Table.{stride, left, right, cellCount, capacity, firstFree, lastFree, tableLength, scratchWords, wordAt, inUse, isFree}
+use Rattle.machine.specs.Queue.{Packet, slots}
 use Rattle.machine.specs.Packets.{uses, contains}
 use Rattle.machine.specs.Counts.{pointers}
 use Rattle.machine.specs.Reached.{Reached}
 use Rattle.machine.specs.Audit.{replayed, undoable, undone}
+
+-- Question 1: of the table,
+pub record TableShape (t : List ℕ) : Type 0 where
+  pub some : 1 ≤ capacity t
+  pub most : capacity t ≤ mostCells
+  pub first : firstFree t ≤ capacity t
+  pub last : lastFree t ≤ capacity t
+  pub room : tableLength (capacity t) ≤ length t
+
+-- of the queue,
+pub record QueueShape (q : Queue) : Type 0 where
+  pub place : q .place < slots
+  pub count : q .count ≤ slots
+
+-- and of both
+pub record Shape (t : List ℕ) (q : Queue) : Type 0 where
+  pub table : TableShape t
+  pub queue : QueueShape q
+
+-- Questions 1 and 2
+pub record Lent (t : List ℕ) (q : Queue) (s : List ℕ) : Type 0 where
+  pub shape : Shape t q
+  pub scratch : scratchWords (capacity t) ≤ length s
 
 -- places linked by their left words, from the number w to 0
 abbrev pub Linked : List ℕ → ℕ → List ℕ → Type 0
@@ -24,7 +48,7 @@ pub record Chain (t : List ℕ) (is : List ℕ) : Type 0 where
   pub linked : Linked t (firstFree t) is
   pub ends : lastOf (map suc is) ≡ lastFree t
   pub once : (i : ℕ) → i < capacity t → occurrences i is ≡ cond (isFree t i) 1 0
-  pub wiped : (i k : ℕ) → i < capacity t → isFree t i ≡ true → right ≤ k → k ≤ state → wordAt t i k ≡ 0
+  pub wiped : (i k : ℕ) → i < capacity t → isFree t i ≡ true → right ≤ k → k < stride → wordAt t i k ≡ 0
 
 -- the root counts of all cells, by place, after a packet is replayed
 unfoldable pub replayedCounts : Packet → (ℕ → ℕ) → ℕ → ℕ
@@ -80,7 +104,7 @@ pub record Sweep (t : List ℕ) (dead : List ℕ) (t′ : List ℕ) : Type 0 whe
   pub sameCapacity : capacity t′ ≡ capacity t
   pub pastCells : drop (tableLength (capacity t)) t′ ≡ drop (tableLength (capacity t)) t
   -- a freed cell's words behind left are 0
-  pub freed : (i k : ℕ) → contains dead i ≡ true → right ≤ k → k ≤ state → wordAt t′ i k ≡ 0
+  pub freed : (i k : ℕ) → contains dead i ≡ true → right ≤ k → k < stride → wordAt t′ i k ≡ 0
   -- each pointer out of a freed cell lowers a cell count
   pub lowered : (i : ℕ) → i < capacity t → contains dead i ≡ false → wordAt t′ i cellCount ≡ wordAt t i cellCount - pointersOut t dead (suc i)
   -- every other word of a cell that is not freed stands, but for the left word of the chain's end
@@ -99,4 +123,4 @@ pub record FreshTable (c : ℕ) (t t′ : List ℕ) : Type 0 where
   -- each cell's left is the next cell, the last one's 0
   pub next : (i : ℕ) → suc i < c → wordAt t′ i left ≡ suc (suc i)
   pub end : (i : ℕ) → suc i ≡ c → wordAt t′ i left ≡ 0
-  pub zeros : (i k : ℕ) → i < c → right ≤ k → k ≤ state → wordAt t′ i k ≡ 0
+  pub zeros : (i k : ℕ) → i < c → right ≤ k → k < stride → wordAt t′ i k ≡ 0

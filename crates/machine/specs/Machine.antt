@@ -1,8 +1,8 @@
 -- The machine: for any store and call, the reply and the store afterwards.
 use mathlib.Core.List.{List, [], _∷_}
 use Prim.Native.Nat.{ℕ, zero, suc}
-use Rattle.machine.specs.Queue.{emptyQueue, appended}
-use Rattle.machine.specs.Calls.{Call, fresh, row, step, audit, Reply, value, refused, Store, store, packetOf, written, valueOf, freshTable}
+use Rattle.machine.specs.Queue.{emptyQueue, appendedAll}
+use Rattle.machine.specs.Calls.{Call, fresh, row, step, audit, Reply, value, refused, Store, store, packetsOf, written, valueOf, freshTable}
 use Rattle.machine.specs.Step.{Outcome, outcome, stepped}
 use Rattle.machine.specs.Questions.{questions, firstNo}
 use Rattle.machine.specs.Audit.{audited}
@@ -12,7 +12,7 @@ unfoldable pub accepted : Store → Call → Outcome
 accepted s (fresh c) = outcome (value 0) (store (freshTable c (s .table)) emptyQueue (s .scratch))
 accepted s (row r) =
     outcome (value (valueOf (s .table) r))
-    (store (written (s .table) r) (appended (s .queue) (packetOf (s .table) r)) (s .scratch))
+    (store (written (s .table) r) (appendedAll (s .queue) (packetsOf (s .table) r)) (s .scratch))
 accepted s step = stepped s
 accepted s audit = audited s
 

@@ -7,12 +7,12 @@ use lib.ListN.{length}
 use Rattle.machine.specs.declared.Queue.{Queue}
 use Rattle.machine.specs.Range.{every, exists, everyOf}
 use Rattle.machine.specs.Words.{isCell, isLegal, ceiling, mostCells}
-use Rattle.machine.specs.Table.{capacity, firstFree, lastFree, tableLength, isFree}
-use Rattle.machine.specs.Queue.{Packet, slots, appended, waiting}
+use Rattle.machine.specs.Table.{capacity, firstFree, lastFree, tableLength, scratchWords, isFree}
+use Rattle.machine.specs.Queue.{Packet, slots, appendedAll, waiting}
 use Rattle.machine.specs.Packets.{uses}
 use Rattle.machine.specs.Counts.{heldAtLeast, heldAtMost, pointers}
 use Rattle.machine.specs.Calls.{RowCall, car, cdr, cons, setLeft, setRight, up, down}
-use Rattle.machine.specs.Calls.{Call, fresh, row, step, audit, Store, packetOf, written}
+use Rattle.machine.specs.Calls.{Call, fresh, row, step, audit, Store, packetOf, packetsOf, written}
 
 -- a question's number, and its answer
 pub record Question : Type 0 where
@@ -49,9 +49,9 @@ inRange t q =
 unfoldable pub longEnough : ℕ → List ℕ → Bool
 longEnough c t = leb (tableLength c) (length t)
 
--- 2. the scratch has C words or more
+-- 2. the scratch has the words that a table of C cells needs
 unfoldable pub scratchEnough : List ℕ → List ℕ → Bool
-scratchEnough t s = leb (capacity t) (length s)
+scratchEnough t s = leb (scratchWords (capacity t)) (length s)
 
 -- 3. the number is within its range: C 1 to 4,096, n 1 to 4,095
 unfoldable pub cellsInRange : ℕ → Bool
@@ -122,7 +122,7 @@ lateRow t q r =
     ask 6 (heldEnough t (waiting q) (packetOf t r))
     ∷ ask 7 (slotEmpty q)
     ∷ askFree t r
-    ++ (ask 9 (heldWithin (written t r) (waiting (appended q (packetOf t r)))) ∷ ask 10 (pointersWithin (written t r)) ∷ [])
+    ++ (ask 9 (heldWithin (written t r) (waiting (appendedAll q (packetsOf t r)))) ∷ ask 10 (pointersWithin (written t r)) ∷ [])
 
 unfoldable pub late : Store → Call → List Question
 late s (fresh c) = []

@@ -50,6 +50,11 @@ putSlot q j p place count = record {
 unfoldable pub appended : Queue → Packet → Queue
 appended q p = putSlot q ((q .place + q .count) % slots) p (q .place) (q .count + 1)
 
+-- packets appended in their order
+abbrev pub appendedAll : Queue → List Packet → Queue
+appendedAll q [] = q
+appendedAll q (p ∷ ps) = appendedAll (appended q p) ps
+
 -- a taken slot becomes zero and the place moves on by one, 63 to 0
 unfoldable pub taken : Queue → Queue
 taken q = putSlot q (q .place) zeroPacket ((q .place + 1) % slots) (q .count - 1)

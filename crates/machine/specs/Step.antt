@@ -6,7 +6,7 @@ use lib.Dec.{eqb}
 use lib.ListN.{length, drop, replicate}
 use Rattle.machine.specs.Range.{select}
 use Rattle.machine.specs.Words.{isCell}
-use Rattle.machine.specs.Table.{left, right, rootCount, cellCount, capacity, firstFree, lastFree, wordAt, putWord, putEnds, putCell, inUse}
+use Rattle.machine.specs.Table.{left, right, rootCount, cellCount, capacity, firstFree, lastFree, freeCell, scratchWords, wordAt, putWord, putEnds, putCell, inUse}
 use Rattle.machine.specs.Queue.{Packet, waiting, taken}
 use Rattle.machine.specs.Packets.{Counter, root, cell, Direction, plus, minus, Change, changes}
 use Rattle.machine.specs.Reached.{reached}
@@ -44,7 +44,7 @@ lowerPointers t (i ∷ is) = lowerPointers (moveCount (moveCount t cell (wordAt 
 -- append_cell: a cell joins the free chain at its end, all its words 0
 unfoldable pub join : List ℕ → ℕ → List ℕ
 join t i =
-    let wiped = putCell t i 0 0 0 0 0 in
+    let wiped = putCell t i (freeCell 0) in
     cond (eqb (lastFree t) 0)
     (putEnds wiped (suc i) (suc i))
     (putEnds (putWord wiped (pred (lastFree t)) left (suc i)) (firstFree t) (suc i))
@@ -57,9 +57,9 @@ joinAll t (i ∷ is) = joinAll (join t i) is
 unfoldable pub swept : List ℕ → List ℕ → List ℕ
 swept t is = joinAll (lowerPointers t is) is
 
--- the first c words of the scratch 0, the rest untouched
+-- the first n words of the scratch 0, the rest untouched
 unfoldable pub cleared : ℕ → List ℕ → List ℕ
-cleared c s = replicate c 0 ++ drop c s
+cleared n s = replicate n 0 ++ drop n s
 
 pub record Outcome : Type 0 where
   pub reply : Reply
@@ -73,7 +73,7 @@ unfoldable pub stepWith : Store → Packet → List Packet → Outcome
 stepWith s p ps =
     let t = applyChanges (s .table) (changes p) in
     let dead = unreached t ps in
-    outcome (applied (p .kind) (length dead)) (store (swept t dead) (taken (s .queue)) (cleared (capacity t) (s .scratch)))
+    outcome (applied (p .kind) (length dead)) (store (swept t dead) (taken (s .queue)) (cleared (scratchWords (capacity t)) (s .scratch)))
 
 -- with no packet waiting the reply is idle and nothing changes; else the oldest packet is applied
 unfoldable pub stepFrom : Store → List Packet → Outcome

@@ -1,10 +1,10 @@
 -- "The table": a lent run of words: C, first free cell, last free cell, then the cells, five words each. Only this module knows the layout.
 -- A cell is told by its place, its number less one, so that places run from 0.
 use mathlib.Core.Bool.{Bool, not}
-use mathlib.Core.List.{List}
-use Prim.Native.Nat.{ℕ, _+_, _*_}
+use mathlib.Core.List.{List, [], _∷_}
+use Prim.Native.Nat.{ℕ, suc, pred, _+_, _*_}
 use lib.Dec.{ltb}
-use lib.ListN.{getD, set}
+use lib.ListN.{getD, set, replicate}
 
 -- words in a cell, and in front of the cells
 abbrev pub stride : ℕ
@@ -29,6 +29,18 @@ cellCount = 3
 abbrev pub state : ℕ
 state = 4
 
+-- the state of a new cell
+abbrev pub used : ℕ
+used = 1
+
+-- a free cell: its left is the next free cell or 0, its other words are 0
+abbrev pub freeCell : ℕ → List ℕ
+freeCell next = next ∷ replicate (pred stride) 0
+
+-- a new cell: both operands, root count 1 and cell count 0
+abbrev pub newCell : ℕ → ℕ → List ℕ
+newCell x y = x ∷ y ∷ 1 ∷ 0 ∷ used ∷ []
+
 -- C
 unfoldable pub capacity : List ℕ → ℕ
 capacity t = getD t 0 0
@@ -43,6 +55,10 @@ lastFree t = getD t 2 0
 abbrev pub tableLength : ℕ → ℕ
 tableLength c = header + stride * c
 
+-- how many words of scratch a step and an audit of a table of c cells need
+unfoldable pub scratchWords : ℕ → ℕ
+scratchWords c = c
+
 -- where word k of the cell at place i stands
 unfoldable pub position : ℕ → ℕ → ℕ
 position i k = header + stride * i + k
@@ -56,9 +72,14 @@ putWord t i k v = set t (position i k) v
 unfoldable pub putEnds : List ℕ → ℕ → ℕ → List ℕ
 putEnds t first last = set (set t 1 first) 2 last
 
--- all five words of a cell
-unfoldable pub putCell : List ℕ → ℕ → ℕ → ℕ → ℕ → ℕ → ℕ → List ℕ
-putCell t i l r root cell s = putWord (putWord (putWord (putWord (putWord t i left l) i right r) i rootCount root) i cellCount cell) i state s
+-- these words written from word k of a cell on
+unfoldable pub putWords : List ℕ → ℕ → ℕ → List ℕ → List ℕ
+putWords t i k [] = t
+putWords t i k (v ∷ vs) = putWords (putWord t i k v) i (suc k) vs
+
+-- all words of a cell
+unfoldable pub putCell : List ℕ → ℕ → List ℕ → List ℕ
+putCell t i words = putWords t i left words
 
 -- "in use": state 1 wherever S1 holds
 unfoldable pub inUse : List ℕ → ℕ → Bool

@@ -3,6 +3,7 @@ ghost use mathlib.Core.Path.{_≡_};
 ghost use Prim.Native.Nat.{_-_};
 ghost use Rattle.machine.specs.Counters.{Raised};
 ghost use Rattle.machine.specs.Queue.{emptyQueue};
+ghost use Rattle.machine.specs.Answers.{refusalNumber};
 
 // The largest C.
 pub const MOST_CELLS: u16 = 4096;
@@ -103,6 +104,31 @@ pub enum Refusal {
     NoFreeCell,
     HeldCountTooHigh,
     TooManyPointers,
+}
+
+impl Refusal {
+    pub fn number(self) -> u16
+        ensures { λ r. ⌜ r ≡ refusalNumber self ⌝ }
+    {
+        match self {
+            Refusal::StoreOutOfRange => 1,
+            Refusal::ScratchTooShort => 2,
+            Refusal::NumberOutOfRange => 3,
+            Refusal::IllegalWord => 4,
+            Refusal::NotACell => 5,
+            Refusal::NotHeld => 6,
+            Refusal::QueueFull => 7,
+            Refusal::NoFreeCell => 8,
+            Refusal::HeldCountTooHigh => 9,
+            Refusal::TooManyPointers => 10,
+        }
+    }
+}
+
+// What a call's questions say: "yes" to all, or the first "no".
+pub enum Asked {
+    Yes,
+    No(Refusal),
 }
 
 // A row call's answer: the new cell, the word read, the word detached, else 0; or a refusal.

@@ -1,22 +1,88 @@
-// Questions 1 and 2, which calls, collector and audit ask before anything else, for any table, queue and scratch.
+// What the questions ask that have an answer on every store: of words and numbers, of the queue, and questions 1 and 2, which calls, collector and
+// audit ask before anything else.
+use machine::Asked;
+use machine::FIRST_ATOM;
+use machine::MOST_CELLS;
 use machine::Queue;
+use machine::Refusal;
+use machine::RootCount;
 ghost use mathlib.Core.Path.{_≡_};
 ghost use Prim.Native.Nat.{_≤_};
 ghost use lib.ListN.{length};
-ghost use Rattle.machine.specs.Questions.{inRange, scratchEnough};
+ghost use Rattle.machine.specs.Words.{isCell, isLegal};
+ghost use Rattle.machine.specs.Table.{header};
+ghost use Rattle.machine.specs.Calls.{step, store};
+ghost use Rattle.machine.specs.Questions.{firstNo, early, inRange, longEnough, scratchEnough, cellsInRange, numberInRange, slotEmpty};
+ghost use Rattle.machine.specs.Answers.{askedNumber};
+
+// Of c cells.
+pub fn is_cell(c: u16, w: u16) -> bool
+    ensures { λ r. ⌜ r ≡ isCell c w ⌝ }
+{
+    if w < 1 {
+        return false;
+    }
+    w <= c
+}
+
+pub fn is_legal(c: u16, w: u16) -> bool
+    ensures { λ r. ⌜ r ≡ isLegal c w ⌝ }
+{
+    if w == 0 {
+        return true;
+    }
+    if w <= c {
+        return true;
+    }
+    FIRST_ATOM <= w
+}
+
+// Question 3 of n.
+pub fn number_in_range(n: u16) -> bool
+    ensures { λ r. ⌜ r ≡ numberInRange n ⌝ }
+{
+    if n < 1 {
+        return false;
+    }
+    n <= RootCount::CEILING
+}
+
+// Question 3 of C.
+pub fn cells_in_range(c: u16) -> bool
+    ensures { λ r. ⌜ r ≡ cellsInRange c ⌝ }
+{
+    if c < 1 {
+        return false;
+    }
+    c <= MOST_CELLS
+}
+
+// Question 7.
+pub fn slot_empty(queue: Queue) -> bool
+    ensures { λ r. ⌜ r ≡ slotEmpty queue ⌝ }
+{
+    queue.count < Queue::SLOTS
+}
+
+// Question 1 of a fresh.
+pub fn long_enough(c: u16, table: &[u16]) -> bool
+    ensures { λ r. ⌜ r ≡ longEnough c (now (table .entry)) ⌝ }
+{
+    cells::words_for(c) <= table.len()
+}
 
 // Question 1: C, both free ends, the queue's place and count are within range, and the table has the words for its cells.
 pub fn in_range(table: &[u16], queue: Queue) -> bool
     ensures { λ r. ⌜ r ≡ inRange (now (table .entry)) queue ⌝ }
 {
-    if table.len() < 8 {
+    if table.len() < cells::words_for(1) {
         return false;
     }
     let c = cells::capacity_of(table);
     if c < 1 {
         return false;
     }
-    if 4096 < c {
+    if MOST_CELLS < c {
         return false;
     }
     if c < cells::first_free(table) {
@@ -26,20 +92,33 @@ pub fn in_range(table: &[u16], queue: Queue) -> bool
         return false;
     }
     let place = queue.place;
-    if 64 <= place {
+    if Queue::SLOTS <= place {
         return false;
     }
     let count = queue.count;
-    if 64 < count {
+    if Queue::SLOTS < count {
         return false;
     }
-    3 + 5 * (c as usize) <= table.len()
+    cells::words_for(c) <= table.len()
 }
 
-// Question 2: the scratch has C words or more.
+// Question 2: the scratch has the words that a table of C cells needs.
 pub fn scratch_enough(table: &[u16], scratch: &[u16]) -> bool
-    requires { ⌜ 3 ≤ length (now table) ⌝ }
+    requires { ⌜ header ≤ length (now table) ⌝ }
     ensures { λ r. ⌜ r ≡ scratchEnough (now (table .entry)) (now (scratch .entry)) ⌝ }
 {
-    (cells::capacity_of(table) as usize) <= scratch.len()
+    cells::scratch_for(cells::capacity_of(table)) <= scratch.len()
+}
+
+// Questions 1 and 2, of a step and an audit.
+pub fn lent(table: &[u16], queue: Queue, scratch: &[u16]) -> Asked
+    ensures { λ r. ⌜ askedNumber r ≡ firstNo (early (store (now (table .entry)) queue (now (scratch .entry))) step) ⌝ }
+{
+    if in_range(table, queue) {
+        if scratch_enough(table, scratch) {
+            return Asked::Yes;
+        }
+        return Asked::No(Refusal::ScratchTooShort);
+    }
+    Asked::No(Refusal::StoreOutOfRange)
 }

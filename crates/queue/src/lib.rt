@@ -1,7 +1,7 @@
 // The packet queue: append, the oldest packet, take, and the sums of waiting changes of one cell.
 use machine::Queue;
 ghost use mathlib.Core.Path.{_≡_};
-ghost use Prim.Native.Nat.{_+_, _<_, _≤_};
+ghost use Prim.Native.Nat.{_+_, _%_, _<_, _≤_};
 ghost use Rattle.machine.specs.Range.{matching};
 ghost use Rattle.machine.specs.Queue.{packet, slots, slot, appended, taken, waiting};
 ghost use Rattle.queue.specs.Sums.{packetOf, Bounded, Added, SumsOf};
@@ -12,6 +12,29 @@ pub struct Packet {
     pub a: u16,
     pub b: u16,
     pub c: u16,
+}
+
+// The kinds, by the call that queues a packet.
+impl Packet {
+    pub const READ: u16 = 1;
+
+    pub const CONS: u16 = 2;
+
+    pub const REPLACE_LEFT: u16 = 3;
+
+    pub const UP: u16 = 4;
+
+    pub const DOWN: u16 = 5;
+
+    pub const REPLACE_RIGHT: u16 = 6;
+}
+
+// The slot that lies i places after the first.
+pub fn slot_after(place: u16, i: u16) -> usize
+    requires { ⌜ (place < slots) × (i ≤ slots) ⌝ }
+    ensures { λ r. ⌜ (r ≡ (place + i) % slots) × (r < slots) ⌝ }
+{
+    ((place + i) % Queue::SLOTS) as usize
 }
 
 // Waiting changes of one cell: by how much its root count and its cell count are to be raised and lowered.
@@ -28,7 +51,7 @@ pub fn append(queue: Queue, p: Packet) -> Queue
 {
     let place = queue.place;
     let count = queue.count;
-    let j = ((place + count) % Queue::SLOTS) as usize;
+    let j = slot_after(place, count);
     let mut next = queue;
     next.kinds[j] = p.kind;
     next.a[j] = p.a;
@@ -86,29 +109,29 @@ fn with_changes(s: Sums, kind: u16, a: u16, b: u16, x: u16) -> Sums
 {
     let mut r = s;
     match kind {
-        1 => {
+        Packet::READ => {
             r.rootminus = s.rootminus + matched(a, x, 1);
             r.rootplus = s.rootplus + matched(b, x, 1);
             r
         }
-        2 => {
+        Packet::CONS => {
             let both = matched(a, x, 1) + matched(b, x, 1);
             r.rootminus = s.rootminus + both;
             r.cellplus = s.cellplus + both;
             r
         }
-        3 | 6 => {
+        Packet::REPLACE_LEFT | Packet::REPLACE_RIGHT => {
             let put = matched(a, x, 1);
             r.rootminus = s.rootminus + put;
             r.cellplus = s.cellplus + put;
             r.cellminus = s.cellminus + matched(b, x, 1);
             r
         }
-        4 => {
+        Packet::UP => {
             r.rootplus = s.rootplus + matched(a, x, b);
             r
         }
-        5 => {
+        Packet::DOWN => {
             r.rootminus = s.rootminus + matched(a, x, b);
             r
         }

@@ -23,7 +23,7 @@ use Rattle.machine.proofs.Range.{tested, or-true, or-left, or-right, and-both, 
 use Rattle.machine.proofs.Table.{free-not-in-use, not-in-use-free}
 use Rattle.machine.proofs.Chain.{Places, linked-places, chain-is}
 use Rattle.machine.proofs.Reached.{reached-is}
-use Rattle.machine.proofs.Asked.{Shape, shape-is}
+use Rattle.machine.proofs.Questions.{Shape, shape-is}
 use Rattle.soundness.proofs.Views.{shown, seen, seen-same, earlier, All, Placed, all-map, StagesOf, pointers-seen}
 use Rattle.soundness.proofs.Fits.{Fit, field-fit, fit-field, LegalPacket, packets-legal, legal-packets, legal-placed, named-fit}
 use Rattle.soundness.proofs.Undoing.{before-shown, before-capacity, undoes-stages, stages-undoes}

@@ -17,7 +17,7 @@ use Rattle.machine.specs.Questions.{heldWithin, pointersWithin, earlyRow, askFr
 use Rattle.machine.specs.Audit.{Sound}
 use Rattle.machine.proofs.Ring.{Arrays, waiting-appended}
 use Rattle.machine.proofs.Undo.{within-is}
-use Rattle.machine.proofs.Asked.{AllYes}
+use Rattle.machine.proofs.Questions.{AllYes}
 use Rattle.soundness.proofs.ByKind.{moves, unnamed-waiting, waiting-snoc}
 use Rattle.soundness.proofs.Facts.{Facts, sound-facts, free-unnamed}
 use Rattle.soundness.proofs.Appending.{HeldFor, Wrote, wrote-pointers}

@@ -18,7 +18,7 @@ use Rattle.machine.specs.Questions.{Question, firstNo, heldEnough, slotEmpty, h
 use Rattle.machine.proofs.Range.{or-true, every-at, every-all}
 use Rattle.machine.proofs.Ring.{Arrays, waiting-appended}
 use Rattle.machine.proofs.Undo.{within-is}
-use Rattle.machine.proofs.Asked.{Numbered, AllYes, firstNo-none, firstNo-all, firstNo-zero, early-numbered}
+use Rattle.machine.proofs.Questions.{Numbered, AllYes, firstNo-none, firstNo-all, firstNo-zero, early-numbered}
 use Rattle.machine.proofs.Kept.{early-yes}
 use Rattle.soundness.proofs.Views.{shown, WithinView, pointers-seen}
 use Rattle.soundness.proofs.Appending.{HeldFor}

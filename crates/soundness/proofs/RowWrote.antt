@@ -17,7 +17,7 @@ use Rattle.machine.specs.Questions.{wordsLegal, xIsCell, cellFree, earlyRow, as
 use Rattle.machine.specs.Facts.{Chain}
 use Rattle.machine.proofs.Range.{tested, and-first, and-second, exists-at, matching-same, matching-other}
 use Rattle.machine.proofs.Table.{word-other}
-use Rattle.machine.proofs.Asked.{AllYes}
+use Rattle.machine.proofs.Questions.{AllYes}
 use Rattle.soundness.proofs.ByKind.{moves}
 use Rattle.soundness.proofs.Facts.{Facts, free-zero}
 use Rattle.soundness.proofs.Appending.{HeldFor, Wrote}

@@ -20,7 +20,7 @@ use Rattle.machine.specs.Audit.{rules, auditReply, audited, Sound}
 use Rattle.machine.specs.Machine.{accepted, machine}
 use Rattle.machine.specs.Promise.{Promise}
 use Rattle.machine.proofs.Range.{tested, or-true}
-use Rattle.machine.proofs.Asked.{firstNo-zero}
+use Rattle.machine.proofs.Questions.{firstNo-zero}
 use Rattle.soundness.specs.Demand3.{Link, Joined, Begun, tableAfter, queueAfter, Holds, holds, moved, answers, holdsFrom, holdsAfter, Held, NoneLost, NoneLeft, ExactWhenDone, Clauses, Demand3}
 use Rattle.soundness.proofs.ByKind.{unnamed-waiting}
 use Rattle.soundness.proofs.Facts.{Facts, sound-facts, sound-live}

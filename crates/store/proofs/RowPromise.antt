@@ -18,7 +18,7 @@ use Rattle.machine.specs.Machine.{accepted, answered, machine}
 use Rattle.machine.specs.Answers.{rowReply, freshReply}
 use Rattle.machine.specs.Promise.{Untouched, Bounded, numbers, Promise}
 use Rattle.machine.proofs.Ring.{Arrays}
-use Rattle.machine.proofs.Asked.{Numbered, AllYes, firstNo-append, firstNo-none, firstNo-number, firstNo-all, early-numbered}
+use Rattle.machine.proofs.Questions.{Numbered, AllYes, firstNo-append, firstNo-none, firstNo-number, firstNo-all, early-numbered}
 use Rattle.machine.proofs.Kept.{machine-accepted, machine-refused, kept, bounded-accepted, bounded-same}
 use Rattle.calls.specs.Tests.{freeByEnd, codeLate, codeQuestions}
 use Rattle.calls.specs.Called.{outcomeOf, RowCalled, FreshCalled}

@@ -20,7 +20,7 @@ use Rattle.machine.specs.Audit.{Sound}
 use Rattle.machine.proofs.Range.{tested, not-both, lt-or-ge, or-left, or-right, matching-other}
 use Rattle.machine.proofs.Words.{cell-place, cell-number, place-cell}
 use Rattle.machine.proofs.Ring.{Arrays}
-use Rattle.machine.proofs.Asked.{Numbered, AllYes, firstNo-append, firstNo-none, firstNo-all, early-numbered}
+use Rattle.machine.proofs.Questions.{Numbered, AllYes, firstNo-append, firstNo-none, firstNo-all, early-numbered}
 use Rattle.soundness.proofs.CodeTests.{pointers-counted, first-free, held-most, pointers-most}
 use Rattle.soundness.proofs.RowAsked.{held-test}
 use Rattle.soundness.proofs.Raised.{Fits, question9, question10}

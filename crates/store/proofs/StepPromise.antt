@@ -23,7 +23,7 @@ use Rattle.machine.proofs.Range.{matching-same, lt-or-ge}
 use Rattle.machine.proofs.Words.{cell-place, cell-number}
 use Rattle.machine.proofs.Moves.{length-move, capacity-move, count-move}
 use Rattle.machine.proofs.Ring.{waiting-taken}
-use Rattle.machine.proofs.Asked.{Shape, shape-is}
+use Rattle.machine.proofs.Questions.{Shape, shape-is}
 use Rattle.machine.proofs.Kept.{machine-accepted, machine-refused}
 use Rattle.soundness.specs.Untrimmed.{Passes, AllPass, Untrimmed}
 use Rattle.soundness.proofs.Untrimmed.{untrimmed}

@@ -5,12 +5,12 @@ use Rattle.machine.specs.Table.{inUse}
 use Rattle.cells.proofs.in_use.Statement.{statement}
 use Rattle.cells.proofs.in_use.Tie as tie
 
-word-requires : tie.Need-word-requires
-word-requires c κs = search needs
+state-word-requires : tie.Need-state-word-requires
+state-word-requires c κs = search needs
 
 returns : tie.Need-returns
 unfolding inUse
-returns c = ap (ltb 0) (c .word .ensures)
+returns c = ap (ltb 0) (c .state-word .ensures)
 
 pub in-use-spec : {M : Type 1} → statement M
-in-use-spec = tie.close (tie.spec word-requires returns)
+in-use-spec = tie.close (tie.spec state-word-requires returns)

@@ -1,7 +1,7 @@
 use mathlib.Core.Path.{refl, sym, _∙_}
 use native.Mathlib.Omega.{arith}
 use borrow.Author.Needs.{needs}
-use Rattle.machine.proofs.Asked.{shape-is}
+use Rattle.machine.proofs.Questions.{shape-is}
 use Rattle.collector.proofs.Stepping.{refuses-1, refuses-2, idles, waits, applies, no-0}
 use Rattle.collector.proofs.step.Statement.{statement}
 use Rattle.collector.proofs.step.Tie as tie

@@ -1,13 +1,13 @@
+use mathlib.Core.Path.{ap}
+use Prim.Native.Nat.{ℕ, _+_}
 use borrow.Author.Needs.{needs}
+use Rattle.queue.specs.Sums.{packetOf}
 use Rattle.machine.specs.Queue.{appended, putSlot}
 use Rattle.queue.proofs.append.Statement.{statement}
 use Rattle.queue.proofs.append.Tie as tie
 
-add-j : tie.Need-add-j
-add-j c = search needs
-
-cast-j : tie.Need-cast-j
-cast-j c = search needs
+slot-after-requires : tie.Need-slot-after-requires
+slot-after-requires c κs = search needs
 
 mul-next : tie.Need-mul-next
 mul-next c = search needs
@@ -38,14 +38,15 @@ add-next c = search needs
 
 returns : tie.Need-returns
 unfolding appended putSlot
-returns c = search needs
+returns c =
+    let i = c .before .args in
+    ap (λ (j : ℕ). putSlot (i .queue) j (packetOf (i .p)) (i .queue .place) (i .queue .count + 1)) (c .slot-after .ensures .0)
 
 pub append-spec : {M : Type 1} → statement M
 append-spec =
     tie.close
     (tie.spec
-    add-j
-    cast-j
+    slot-after-requires
     mul-next
     element-write-next
     mul-next-2

@@ -4,7 +4,7 @@ use native.Mathlib.Omega.{arith}
 use borrow.Author.Tests.{not-true, not-false}
 use borrow.Author.Needs.{needs}
 use Rattle.machine.specs.Questions.{inRange, numberInRange}
-use Rattle.machine.proofs.Asked.{shape-is}
+use Rattle.machine.proofs.Questions.{shape-is}
 use Rattle.calls.proofs.EarlyLaws.{number-low, number-high, number-within, legal, words-1, words-3, words-x, words-y, words-0}
 use Rattle.calls.proofs.early.words_number.Statement.{statement}
 use Rattle.calls.proofs.early.words_number.Tie as tie

@@ -10,11 +10,12 @@ use lib.ListN.{length}
 use borrow.Author.Tests.{leb-true, le-leb, ltb-true, lt-ltb, eq-eqb}
 use Rattle.machine.specs.declared.Queue.{Queue}
 use Rattle.machine.specs.Words.{mostCells}
-use Rattle.machine.specs.Table.{capacity, firstFree, lastFree, tableLength}
+use Rattle.machine.specs.Table.{capacity, firstFree, lastFree, tableLength, scratchWords}
 use Rattle.machine.specs.Queue.{slots}
 use Rattle.machine.specs.Packets.{contains}
-use Rattle.machine.specs.Calls.{RowCall, car, cdr, cons, setLeft, setRight, up, down, Call, fresh, row, step, audit, Store}
-use Rattle.machine.specs.Questions.{Question, firstNo, refusedBy, earlyRow, early, askFree, lateRow, late, inRange}
+use Rattle.machine.specs.Calls.{RowCall, car, cdr, cons, setLeft, setRight, up, down, Call, fresh, row, step, audit, Store, store}
+use Rattle.machine.specs.Questions.{Question, firstNo, refusedBy, earlyRow, early, askFree, lateRow, late, inRange, scratchEnough}
+use Rattle.machine.specs.Facts.{Shape, Lent}
 use Rattle.machine.specs.Promise.{numbers}
 use Rattle.machine.proofs.Range.{tested, or-left, or-right, and-first, and-second}
 
@@ -83,15 +84,6 @@ early-numbered s step = (omega arith, (omega arith, tt))
 early-numbered s audit = (omega arith, (omega arith, tt))
 
 -- question 1 as plain facts
-pub record Shape (t : List ℕ) (q : Queue) : Type 0 where
-  pub some : 1 ≤ capacity t
-  pub most : capacity t ≤ mostCells
-  pub first : firstFree t ≤ capacity t
-  pub last : lastFree t ≤ capacity t
-  pub place : q .place < slots
-  pub count : q .count ≤ slots
-  pub room : tableLength (capacity t) ≤ length t
-
 pub shape-is : (t : List ℕ) (q : Queue) → inRange t q ≡ true → Shape t q
 unfolding inRange
 shape-is t q h =
@@ -106,14 +98,37 @@ shape-is t q h =
     let hf = and-first f (leb (lastFree t) (capacity t)) hl in
     let hc = and-first c (leb (firstFree t) (capacity t)) hf in
     record {
-      some = leb-true 1 (capacity t) (and-first (leb 1 (capacity t)) (leb (capacity t) mostCells) hc);
-      most = leb-true (capacity t) mostCells (and-second (leb 1 (capacity t)) (leb (capacity t) mostCells) hc);
-      first = leb-true (firstFree t) (capacity t) (and-second c (leb (firstFree t) (capacity t)) hf);
-      last = leb-true (lastFree t) (capacity t) (and-second f (leb (lastFree t) (capacity t)) hl);
-      place = ltb-true (q .place) slots (and-second l (ltb (q .place) slots) hp);
-      count = leb-true (q .count) slots (and-second p (leb (q .count) slots) hn);
-      room = leb-true (tableLength (capacity t)) (length t) (and-second n (leb (tableLength (capacity t)) (length t)) h);
+      table = record {
+        some = leb-true 1 (capacity t) (and-first (leb 1 (capacity t)) (leb (capacity t) mostCells) hc);
+        most = leb-true (capacity t) mostCells (and-second (leb 1 (capacity t)) (leb (capacity t) mostCells) hc);
+        first = leb-true (firstFree t) (capacity t) (and-second c (leb (firstFree t) (capacity t)) hf);
+        last = leb-true (lastFree t) (capacity t) (and-second f (leb (lastFree t) (capacity t)) hl);
+        room = leb-true (tableLength (capacity t)) (length t) (and-second n (leb (tableLength (capacity t)) (length t)) h);
+      };
+      queue = record {
+        place = ltb-true (q .place) slots (and-second l (ltb (q .place) slots) hp);
+        count = leb-true (q .count) slots (and-second p (leb (q .count) slots) hn);
+      };
     }
+
+-- questions 1 and 2
+pub lent-is : (t : List ℕ) (q : Queue) (s : List ℕ) → inRange t q ≡ true → scratchEnough t s ≡ true → Lent t q s
+unfolding scratchEnough
+lent-is t q s h e = record { shape = shape-is t q h; scratch = leb-true (scratchWords (capacity t)) (length s) e }
+
+-- the first "no" of a step, and likewise of an audit
+module _ (t : List ℕ) (q : Queue) (s : List ℕ) where
+  pub step-asked-1 : inRange t q ≡ false → firstNo (early (store t q s) step) ≡ 1
+  unfolding firstNo early
+  step-asked-1 h = rw h
+
+  pub step-asked-2 : inRange t q ≡ true → scratchEnough t s ≡ false → firstNo (early (store t q s) step) ≡ 2
+  unfolding firstNo early
+  step-asked-2 h e = rw (h, e)
+
+  pub step-asked : inRange t q ≡ true → scratchEnough t s ≡ true → firstNo (early (store t q s) step) ≡ 0
+  unfolding firstNo early
+  step-asked h e = rw (h, e)
 
 -- where everything but the length is within range, the length decides
 pub in-range-length : (t : List ℕ) (q : Queue) → 1 ≤ capacity t → capacity t ≤ mostCells → firstFree t ≤ capacity t → lastFree t ≤ capacity t → q .place < slots → q .count ≤ slots
@@ -124,7 +139,8 @@ in-range-length t q a b c d e f =
 
 pub shape-test : (t : List ℕ) (q : Queue) → Shape t q → inRange t q ≡ true
 shape-test t q s =
-    in-range-length t q (s .some) (s .most) (s .first) (s .last) (s .place) (s .count) ∙ le-leb (tableLength (capacity t)) (length t) (s .room)
+    let k = s .table in
+    in-range-length t q (k .some) (k .most) (k .first) (k .last) (s .queue .place) (s .queue .count) ∙ le-leb (tableLength (capacity t)) (length t) (k .room)
 
 pub not-in-range : (t : List ℕ) (q : Queue) → (Shape t q → ⊥) → inRange t q ≡ false
 not-in-range t q f = ⊎-elim (λ e. absurd (f (shape-is t q e))) (λ e. e) (tested (inRange t q))
