@@ -18,3 +18,4 @@ pub mod Questions
 pub mod Kept
 pub mod Computes
 pub mod Cases
+pub mod ShutOut

@@ -2,4 +2,3 @@
 pub mod RowTests
 pub mod RowPromise
 pub mod StepPromise
-pub mod ShutOut

@@ -18,6 +18,7 @@ use Rattle.machine.specs.Step.{counterWord}
 use Rattle.machine.specs.Questions.{Question, ask, firstNo, refusedBy, heldEnough, slotEmpty, cellFree, heldWithin, pointersWithin, earlyRow, early, askFree, lateRow, late, questions}
 use Rattle.machine.specs.Audit.{Sound}
 use Rattle.machine.proofs.Range.{tested, not-both, lt-or-ge, or-left, or-right, matching-other}
+use Rattle.machine.proofs.Lists.{everyOf-at, everyOf-all}
 use Rattle.machine.proofs.Words.{cell-place, cell-number, place-cell}
 use Rattle.machine.proofs.Ring.{Arrays}
 use Rattle.machine.proofs.Questions.{Numbered, AllYes, firstNo-append, firstNo-none, firstNo-all, early-numbered}
@@ -25,7 +26,7 @@ use Rattle.soundness.proofs.CodeTests.{pointers-counted, first-free, held-most,
 use Rattle.soundness.proofs.RowAsked.{held-test}
 use Rattle.soundness.proofs.Raised.{Fits, question9, question10}
 use Rattle.calls.specs.Tests.{raisedWords, countWithin, raisedWithin, freeByEnd, codeLate, codeQuestions}
-use Rattle.calls.proofs.LateLaws.{bool-same, everyOf-at, everyOf-all}
+use Rattle.calls.proofs.LateLaws.{bool-same}
 
 -- a word that a list of changes raises by something is among its raised words
 raised-contains : (k : Counter) (x : ℕ) (hs : List Change) → 0 < movedBy k plus x hs → contains (raisedWords k hs) x ≡ true

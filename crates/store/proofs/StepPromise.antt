@@ -23,7 +23,7 @@ use Rattle.machine.proofs.Range.{matching-same, lt-or-ge}
 use Rattle.machine.proofs.Words.{cell-place, cell-number}
 use Rattle.machine.proofs.Moves.{length-move, capacity-move, count-move}
 use Rattle.machine.proofs.Ring.{waiting-taken}
-use Rattle.machine.proofs.Questions.{Shape, shape-is}
+use Rattle.machine.proofs.Questions.{shape-is}
 use Rattle.machine.proofs.Kept.{machine-accepted, machine-refused}
 use Rattle.soundness.specs.Untrimmed.{Passes, AllPass, Untrimmed}
 use Rattle.soundness.proofs.Untrimmed.{untrimmed}
@@ -54,8 +54,8 @@ passes-fit p t (h ∷ hs) f a = (here, passes-fit p u hs (rw (capacity-move t (h
 premises : (t : List ℕ) (q : Queue) → Sound t q → 0 < q .count → Premises t q
 premises t q s l =
     let shape = shape-is t q (s .shape) in
-    let first = waiting-taken q (pred (q .count)) (shape .place) (shape .count) (omega arith) in
-    record { fit = passes-fit (oldest q) t (changes (oldest q)) (shape .room) (untrimmed t q (oldest q) (waiting (taken q)) s first .passing); live = s .live }
+    let first = waiting-taken q (pred (q .count)) (shape .queue .place) (shape .queue .count) (omega arith) in
+    record { fit = passes-fit (oldest q) t (changes (oldest q)) (shape .table .room) (untrimmed t q (oldest q) (waiting (taken q)) s first .passing); live = s .live }
 
 idle-is : (t : List ℕ) (q : Queue) (s : List ℕ) → q .count ≡ 0 → stepped (store t q s) ≡ outcome idle (store t q s)
 unfolding stepped stepFrom waiting packetsFrom
