@@ -4,6 +4,7 @@ use libc::STDOUT_FILENO;
 use session_lines::Session;
 ghost use Prim.Native.Nat.{_≤_, _<_};
 ghost use lib.ListN.{length};
+ghost use Rattle.line_text.specs.Texts.{room};
 
 // After a part of the input: the session, and whether to go on; where its output could not be written there is no use.
 struct Relayed {
@@ -19,7 +20,7 @@ fn relay(
     input: &[u8],
     out: &mut [u8],
 ) -> Relayed
-    requires { ⌜ 45 ≤ length (now out) ⌝ }
+    requires { ⌜ room ≤ length (now out) ⌝ }
 {
     let mut present = session;
     let mut from = 0;
@@ -50,7 +51,7 @@ fn read_part(
     input: &mut [u8],
     out: &mut [u8],
 ) -> Relayed
-    requires { ⌜ 45 ≤ length (now out) ⌝ }
+    requires { ⌜ room ≤ length (now out) ⌝ }
 {
     let got = libc::read(STDIN_FILENO, input);
     let n = io::count(got, input);
@@ -76,7 +77,7 @@ fn left(reads: u64, going: bool) -> u64
 
 // A proved loop has to end, and nothing says that the input does: so the reads are counted down, from a number that no run uses up.
 fn run(table: &mut [u16], scratch: &mut [u16], input: &mut [u8], out: &mut [u8])
-    requires { ⌜ 45 ≤ length (now out) ⌝ }
+    requires { ⌜ room ≤ length (now out) ⌝ }
 {
     let mut present = Session::start();
     let mut reads = u64::MAX;

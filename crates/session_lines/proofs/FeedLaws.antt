@@ -7,12 +7,14 @@ use lib.ListN.{length, take, drop, length-drop}
 use lib.Seq.{take-add}
 use Rattle.machine.specs.Calls.{Store, store}
 use Rattle.session_lines.specs.declared.Session.{Session}
-use Rattle.session_lines.specs.Bytes.{split, linesOf}
+use Rattle.line_text.specs.Bytes.{split, linesOf}
+use Rattle.line_text.specs.Kept.{keptBytes}
+use Rattle.line_text.specs.Texts.{room}
 use Rattle.session_lines.specs.Listing.{listed}
-use Rattle.session_lines.specs.Progress.{keptBytes, room, lastLine, onto, begunLine, ahead, TellsLine, Lines, Tells, Turns, Finishes}
-use Rattle.session_lines.proofs.RequestLaws.{last-part, last-part-length}
-use Rattle.session_lines.proofs.WordLaws.{append-none}
-use Rattle.session_lines.proofs.KeepLaws.{take-cap}
+use Rattle.session_lines.specs.Progress.{lastLine, onto, begunLine, ahead, TellsLine, Lines, Tells, Turns, Finishes}
+use Rattle.line_text.proofs.RequestLaws.{last-part, last-part-length}
+use Rattle.line_text.proofs.WordLaws.{append-none}
+use Rattle.line_text.proofs.KeepLaws.{take-cap}
 use Rattle.session_lines.proofs.TurnLaws.{tells-both}
 
 -- a turn on the rest of the input

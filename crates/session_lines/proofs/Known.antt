@@ -11,9 +11,9 @@ use Rattle.machine.specs.Calls.{field, packetOf, withoutFirst, written, valueOf
 use Rattle.machine.specs.Step.{moveCount, applyChanges, unreached, lowerPointers, join, joinAll, swept, cleared, stepWith, stepFrom, stepped}
 use Rattle.machine.specs.Questions.{firstNo, inRange, longEnough, scratchEnough, cellsInRange, numberInRange, wordsLegal, xIsCell, heldEnough, slotEmpty, cellFree, heldWithin, pointersWithin, earlyRow, early, askFree, lateRow, late, questions}
 use Rattle.machine.specs.Machine.{accepted, answered, machine}
-use Rattle.session_lines.specs.Bytes.{split, sameBytes}
-use Rattle.session_lines.specs.Requests.{numberFrom, operandOf, withNone, withOne, withTwo, byWords, requestOf}
-use Rattle.session_lines.specs.Texts.{digits, outputLine}
+use Rattle.line_text.specs.Bytes.{split, sameBytes}
+use Rattle.line_text.specs.Requests.{numberFrom, operandOf, withNone, withOne, withTwo, byWords, requestOf}
+use Rattle.line_text.specs.Texts.{digits, outputLine}
 use Rattle.session_lines.specs.Listing.{listingWith, listed, called}
 use Rattle.session_lines.specs.Known.{Known}
 

@@ -12,11 +12,12 @@ use Rattle.machine.specs.Questions.{firstNo, inRange, early, late, questions}
 use Rattle.machine.specs.Machine.{accepted, answered, machine}
 use Rattle.machine.specs.Promise.{Promise}
 use Rattle.soundness.proofs.Keeps.{Whole, machine-refused, machine-accepted, fresh-whole, decided, promise-whole}
-use Rattle.session_lines.specs.declared.Request
-use Rattle.session_lines.specs.declared.Request.{Request}
-use Rattle.session_lines.specs.declared.Verdict
-use Rattle.session_lines.specs.declared.Verdict.{Verdict}
-use Rattle.session_lines.specs.Listing.{verdictOf, Served, called, served}
+use Rattle.line_text.specs.declared.Request
+use Rattle.line_text.specs.declared.Request.{Request}
+use Rattle.line_text.specs.declared.Verdict
+use Rattle.line_text.specs.declared.Verdict.{Verdict}
+use Rattle.line_text.specs.Verdicts.{verdictOf}
+use Rattle.session_lines.specs.Listing.{Served, called, served}
 use Rattle.session_lines.specs.Serving.{Good, Serves}
 
 -- reply and store are the machine's, and the store is good again

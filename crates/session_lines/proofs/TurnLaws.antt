@@ -8,18 +8,20 @@ use lib.ListN.{length, take, drop, length-append}
 use lib.Seq.{take-all, take-add, length-take-le}
 use Rattle.machine.specs.declared.Queue.{Queue}
 use Rattle.machine.specs.Calls.{Store, store}
-use Rattle.session_lines.specs.declared.Request.{Request}
-use Rattle.session_lines.specs.declared.Verdict.{Verdict}
+use Rattle.line_text.specs.declared.Request.{Request}
+use Rattle.line_text.specs.declared.Verdict.{Verdict}
 use Rattle.session_lines.specs.declared.Session.{Session}
-use Rattle.session_lines.specs.Bytes.{lineFeed, before, linesOf}
-use Rattle.session_lines.specs.Requests.{requestOf}
-use Rattle.session_lines.specs.Texts.{outputLine}
+use Rattle.line_text.specs.Bytes.{lineFeed, before, linesOf}
+use Rattle.line_text.specs.Requests.{requestOf}
+use Rattle.line_text.specs.Kept.{keptBytes, Keeps}
+use Rattle.line_text.specs.Texts.{room, outputLine}
 use Rattle.session_lines.specs.Listing.{served, listed}
 use Rattle.session_lines.specs.Serving.{Good, Serves}
-use Rattle.session_lines.specs.Put.{Put}
-use Rattle.session_lines.specs.Progress.{keptBytes, onto, begunLine, ahead, Keeps, TellsLine, Lines, Tells, Turns}
-use Rattle.session_lines.proofs.PutLaws.{put-none, output-length}
-use Rattle.session_lines.proofs.LineLaws.{onto-none, lines-joined, lines-ended, request-capped, listed-same, listed-capped}
+use Rattle.line_text.specs.Put.{Put}
+use Rattle.session_lines.specs.Progress.{onto, begunLine, ahead, TellsLine, Lines, Tells, Turns}
+use Rattle.line_text.proofs.PutLaws.{output-length}
+use Rattle.line_text.proofs.KeepLaws.{request-capped}
+use Rattle.session_lines.proofs.LineLaws.{onto-none, lines-joined, lines-ended, listed-same, listed-capped}
 
 pub line-tells : (line : List ℕ) (lines : ℕ) (s : Store) (request : Request) (v : Verdict) (s′ : Store) (number : ℕ)
     → request ≡ requestOf line
@@ -36,7 +38,7 @@ line-tells line lines s request v s′ number er h en = record {
 }
 
 pub line-put : (line : List ℕ) (lines : ℕ) (s : Store) (out : List ℕ) (at number : ℕ) (v : Verdict) (s′ : Store) (end : ℕ) (new : List ℕ)
-    → at + 45 ≤ length out → length new ≡ length out
+    → at + room ≤ length out → length new ≡ length out
     → Put out at (outputLine number v) new end
     → TellsLine line lines s (outputLine number v) number s′
     → Lines line lines s out at number s′ end new

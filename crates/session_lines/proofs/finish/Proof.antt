@@ -3,12 +3,13 @@ use native.Mathlib.Omega.{arith}
 use lib.Seq.{length-take-le}
 use lib.ListN.{length}
 use borrow.Author.Needs.{needs}
+use Rattle.line_text.specs.Kept.{keptBytes}
 use Rattle.session_lines.proofs.FeedLaws.{finish-none, finish-line}
 use Rattle.session_lines.proofs.finish.Statement.{statement}
 use Rattle.session_lines.proofs.finish.Tie as tie
 
--- the field is an array of 81 bytes
-line-length : (c : tie.Start) → length (c .args .session .line) ≡ 81
+-- the field is an array
+line-length : (c : tie.Start) → length (c .args .session .line) ≡ keptBytes
 line-length c = search needs
 
 capped-requires : tie.Need-capped-requires

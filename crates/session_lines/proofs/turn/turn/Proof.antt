@@ -4,13 +4,14 @@ use native.Mathlib.Omega.{arith}
 use lib.Seq.{length-take-le}
 use lib.ListN.{length}
 use borrow.Author.Needs.{needs}
+use Rattle.line_text.specs.Kept.{keptBytes}
 use Rattle.session_lines.proofs.TurnLaws.{joined-tells, ended-tells}
-use Rattle.session_lines.proofs.PutLaws.{put-none}
+use Rattle.line_text.proofs.PutLaws.{put-none}
 use Rattle.session_lines.proofs.turn.turn.Statement.{statement}
 use Rattle.session_lines.proofs.turn.turn.Tie as tie
 
--- the field is an array of 81 bytes
-line-length : (c : tie.Start) → length (c .args .session .line) ≡ 81
+-- the field is an array
+line-length : (c : tie.Start) → length (c .args .session .line) ≡ keptBytes
 line-length c = search needs
 
 find-requires : tie.Need-find-requires
@@ -23,7 +24,7 @@ keep-requires : tie.Need-keep-requires
 keep-requires c κs = search needs
 
 returns : tie.Need-returns
-returns c = let size : length (c .before .before .before .before .before .before .before .before .before .before .before .args .session .line) ≡ 81 = search needs in
+returns c = let size : length (c .before .before .before .before .before .before .before .before .before .before .before .args .session .line) ≡ keptBytes = search needs in
     let f = c .before .before .before .before .before .before .find in
     record {
       some = λ h. omega (arith, c .if1 .taken);
@@ -35,10 +36,10 @@ returns c = let size : length (c .before .before .before .before .before .before
     }
 
 array-share-prefix-line : tie.Need-array-share-prefix-line
-array-share-prefix-line c = let size : length (c .before .before .before .before .before .before .before .before .before .before .before .args .session .line) ≡ 81 = search needs in omega (arith, c .before .keep .ensures .size, c .before .keep .ensures .most)
+array-share-prefix-line c = let size : length (c .before .before .before .before .before .before .before .before .before .before .before .args .session .line) ≡ keptBytes = search needs in omega (arith, c .before .keep .ensures .size, c .before .keep .ensures .most)
 
 slice-aggregate-serve-line : tie.Need-slice-aggregate-serve-line
-slice-aggregate-serve-line c = let size : length (c .before .before .before .before .before .before .before .before .before .before .before .before .args .session .line) ≡ 81 = search needs in sym (length-take-le _ _ (omega (arith, c .before .before .keep .ensures .size, c .before .before .keep .ensures .most)))
+slice-aggregate-serve-line c = let size : length (c .before .before .before .before .before .before .before .before .before .before .before .before .args .session .line) ≡ keptBytes = search needs in sym (length-take-le _ _ (omega (arith, c .before .before .keep .ensures .size, c .before .before .keep .ensures .most)))
 
 serve-line-requires : tie.Need-serve-line-requires
 serve-line-requires c κs = search needs
