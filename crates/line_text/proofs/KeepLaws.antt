@@ -21,7 +21,8 @@ take-cap zero l = rw (zero-min (length l))
 take-cap (suc n) [] = rw (min-zero (suc n))
 take-cap (suc n) (x ∷ xs) = rw (suc-min-suc n (length xs)) (ap {B = List ℕ} (λ r. x ∷ r) (take-cap n xs))
 
-module _ (line new part : List ℕ) (held m i n : ℕ) (em : m ≡ min held keptBytes) (l : length line ≡ keptBytes) (en : n ≡ m + i) (fits : m + i ≤ keptBytes)
+module _ (line new part : List ℕ) (held i : ℕ) {m n : ℕ}
+    (em : m ≡ min held keptBytes) (l : length line ≡ keptBytes) (en : n ≡ m + i) (fits : m + i ≤ keptBytes)
     (e : take (m + i) new ≡ take m line ++ take i part) where
   -- what is kept is the front of the line that the part makes longer
   from-front : take i part ≡ take (keptBytes - m) part → take n new ≡ take keptBytes (take held line ++ part)
@@ -43,10 +44,10 @@ module _ (line new part : List ℕ) (held m i n : ℕ) (em : m ≡ min held kept
   kept-all h = from-front (take-all i part h ∙ sym (take-all (keptBytes - m) part (omega arith)))
 
 -- one byte more
-pub kept-more : (line new part : List ℕ) (m i n : ℕ) → n ≡ m + i → i < length part → n < length new
+pub kept-more : (line new part : List ℕ) (m i : ℕ) {n : ℕ} → n ≡ m + i → i < length part → n < length new
     → take (m + i) new ≡ take m line ++ take i part
     → take (m + (i + 1)) (set new n (getD part i 0)) ≡ take m line ++ take (i + 1) part
-kept-more line new part m i n en hp hn e =
+kept-more line new part m i en hp hn e =
     ap (λ (k : ℕ). take (m + (i + 1)) (set new k (getD part i 0))) en ∙ word-step line new part m i hp (omega arith) e
 
 -- a line's first bytes tell what it asks for

@@ -12,7 +12,7 @@ use lib.Seq.{take-all, take-suc, take-suc-set}
 use borrow.Author.Tests.{lt-ltb, le-ltb, ltb-true, ltb-false}
 use Rattle.line_text.specs.declared.Verdict
 use Rattle.line_text.specs.declared.Verdict.{Verdict}
-use Rattle.line_text.specs.Texts.{digits, verdictText, outputLine}
+use Rattle.line_text.specs.Texts.{digits, mostDigits, verdictRoom, verdictText, room, outputLine}
 use Rattle.line_text.specs.Put.{Put}
 
 -- two texts are one
@@ -77,16 +77,21 @@ digits-length (suc most) n = go (ltb n 10) (digits-length most (n / 10))
 pub word-none : (out word : List ℕ) (at : ℕ) → take (at + 0) out ≡ take at out ++ take 0 word
 word-none out word at = rw (add-zero at) (put-none out at .front)
 
-pub word-all : (out new word : List ℕ) (at i : ℕ) → i ≤ length word → length word ≤ i → take (at + i) new ≡ take at out ++ take i word → Put out at word new (at + i)
+pub word-all : (out new word : List ℕ) (at i : ℕ) → i ≤ length word → length word ≤ i → take (at + i) new ≡ take at out ++ take i word
+    → Put out at word new (at + i)
 word-all out new word at i h g e = record { front = e ∙ ap (λ (l : List ℕ). take at out ++ l) (take-all i word g); ends = omega arith }
 
-pub verdict-length : (v : Verdict) → length (verdictText v) ≤ 23
-verdict-length (Verdict.Ok v) = omega (arith, digits-length 20 v)
-verdict-length (Verdict.No n) = omega (arith, digits-length 20 n)
+-- a text that fits before a place ends before it
+pub put-within : {old new text : List ℕ} {at end : ℕ} (most : ℕ) → Put old at text new end → length text ≤ most → end ≤ at + most
+put-within most p h = omega (arith, p .ends)
+
+pub verdict-length : (v : Verdict) → length (verdictText v) ≤ verdictRoom
+verdict-length (Verdict.Ok v) = omega (arith, digits-length mostDigits v)
+verdict-length (Verdict.No n) = omega (arith, digits-length mostDigits n)
 verdict-length Verdict.Idle = omega arith
 verdict-length Verdict.Bad = omega arith
 
-pub output-length : (n : ℕ) (v : Verdict) → length (outputLine n v) ≤ 45
+pub output-length : (n : ℕ) (v : Verdict) → length (outputLine n v) ≤ room
 unfolding outputLine
 output-length n v =
-    simp length-append (omega (arith, digits-length 20 n, verdict-length v))
+    simp length-append (omega (arith, digits-length mostDigits n, verdict-length v))

@@ -5,6 +5,7 @@ use mathlib.Core.List.{List, [], _∷_}
 use Prim.Native.Nat.{ℕ, zero, suc, _+_, _-_, _≤_, _<_}
 use native.Mathlib.Numerals.{add-one}
 use native.Mathlib.Omega.{arith}
+use Prim.Native.String.{String}
 use lib.Dec.{leb, eqb}
 use lib.ListN.{length, take, drop, getD, length-drop}
 use lib.Seq.{take-all}
@@ -13,57 +14,63 @@ use Rattle.line_text.specs.declared.Operand
 use Rattle.line_text.specs.declared.Operand.{Operand}
 use Rattle.line_text.specs.declared.Request
 use Rattle.line_text.specs.declared.Request.{Request}
-use Rattle.line_text.specs.Bytes.{ascii, sameBytes, before, split, wordsOf, space}
+use Rattle.line_text.specs.Bytes.{ascii, sameBytes, before, onFirst, split, wordsOf, space}
 use Rattle.line_text.specs.Requests.{numberFrom, zeroAlone, operandOf, withNone, withOne, withTwo, ifOne, ifBoth, byWords, requestOf, mostBytes}
 use Rattle.line_text.proofs.WordLaws.{split-all, split-at}
 
-pub none-step : (k : List ℕ) → sameBytes k (ascii "step") ≡ true → Request.Step ≡ withNone k
+abbrev is : List ℕ → String → Type 0
+is k word = sameBytes k (ascii word) ≡ true
+
+abbrev isnt : List ℕ → String → Type 0
+isnt k word = sameBytes k (ascii word) ≡ false
+
+pub none-step : (k : List ℕ) → is k "step" → Request.Step ≡ withNone k
 unfolding withNone
 none-step k h = rw h
 
-pub none-bad : (k : List ℕ) → sameBytes k (ascii "step") ≡ false → Request.Bad ≡ withNone k
+pub none-bad : (k : List ℕ) → isnt k "step" → Request.Bad ≡ withNone k
 unfolding withNone
 none-bad k h = rw h
 
 module _ (k : List ℕ) (x : ℕ) where
-  pub one-fresh : sameBytes k (ascii "fresh") ≡ true → Request.Fresh x ≡ withOne k x
+  pub one-fresh : is k "fresh" → Request.Fresh x ≡ withOne k x
   unfolding withOne
   one-fresh h₁ = rw (h₁)
 
-  pub one-car : sameBytes k (ascii "fresh") ≡ false → sameBytes k (ascii "car") ≡ true → Request.Car x ≡ withOne k x
+  pub one-car : isnt k "fresh" → is k "car" → Request.Car x ≡ withOne k x
   unfolding withOne
   one-car h₁ h₂ = rw (h₁, h₂)
 
-  pub one-cdr : sameBytes k (ascii "fresh") ≡ false → sameBytes k (ascii "car") ≡ false → sameBytes k (ascii "cdr") ≡ true → Request.Cdr x ≡ withOne k x
+  pub one-cdr : isnt k "fresh" → isnt k "car" → is k "cdr" → Request.Cdr x ≡ withOne k x
   unfolding withOne
   one-cdr h₁ h₂ h₃ = rw (h₁, h₂, h₃)
 
-  pub one-bad : sameBytes k (ascii "fresh") ≡ false → sameBytes k (ascii "car") ≡ false → sameBytes k (ascii "cdr") ≡ false → Request.Bad ≡ withOne k x
+  pub one-bad : isnt k "fresh" → isnt k "car" → isnt k "cdr" → Request.Bad ≡ withOne k x
   unfolding withOne
   one-bad h₁ h₂ h₃ = rw (h₁, h₂, h₃)
 
 module _ (k : List ℕ) (x y : ℕ) where
-  pub two-cons : sameBytes k (ascii "cons") ≡ true → Request.Cons x y ≡ withTwo k x y
+  pub two-cons : is k "cons" → Request.Cons x y ≡ withTwo k x y
   unfolding withTwo
   two-cons h₁ = rw (h₁)
 
-  pub two-setl : sameBytes k (ascii "cons") ≡ false → sameBytes k (ascii "setl") ≡ true → Request.SetLeft x y ≡ withTwo k x y
+  pub two-setl : isnt k "cons" → is k "setl" → Request.SetLeft x y ≡ withTwo k x y
   unfolding withTwo
   two-setl h₁ h₂ = rw (h₁, h₂)
 
-  pub two-setr : sameBytes k (ascii "cons") ≡ false → sameBytes k (ascii "setl") ≡ false → sameBytes k (ascii "setr") ≡ true → Request.SetRight x y ≡ withTwo k x y
+  pub two-setr : isnt k "cons" → isnt k "setl" → is k "setr" → Request.SetRight x y ≡ withTwo k x y
   unfolding withTwo
   two-setr h₁ h₂ h₃ = rw (h₁, h₂, h₃)
 
-  pub two-up : sameBytes k (ascii "cons") ≡ false → sameBytes k (ascii "setl") ≡ false → sameBytes k (ascii "setr") ≡ false → sameBytes k (ascii "up") ≡ true → Request.Up x y ≡ withTwo k x y
+  pub two-up : isnt k "cons" → isnt k "setl" → isnt k "setr" → is k "up" → Request.Up x y ≡ withTwo k x y
   unfolding withTwo
   two-up h₁ h₂ h₃ h₄ = rw (h₁, h₂, h₃, h₄)
 
-  pub two-down : sameBytes k (ascii "cons") ≡ false → sameBytes k (ascii "setl") ≡ false → sameBytes k (ascii "setr") ≡ false → sameBytes k (ascii "up") ≡ false → sameBytes k (ascii "down") ≡ true → Request.Down x y ≡ withTwo k x y
+  pub two-down : isnt k "cons" → isnt k "setl" → isnt k "setr" → isnt k "up" → is k "down" → Request.Down x y ≡ withTwo k x y
   unfolding withTwo
   two-down h₁ h₂ h₃ h₄ h₅ = rw (h₁, h₂, h₃, h₄, h₅)
 
-  pub two-bad : sameBytes k (ascii "cons") ≡ false → sameBytes k (ascii "setl") ≡ false → sameBytes k (ascii "setr") ≡ false → sameBytes k (ascii "up") ≡ false → sameBytes k (ascii "down") ≡ false → Request.Bad ≡ withTwo k x y
+  pub two-bad : isnt k "cons" → isnt k "setl" → isnt k "setr" → isnt k "up" → isnt k "down" → Request.Bad ≡ withTwo k x y
   unfolding withTwo
   two-bad h₁ h₂ h₃ h₄ h₅ = rw (h₁, h₂, h₃, h₄, h₅)
 
@@ -115,7 +122,7 @@ some-word [] = ([], [], refl)
 some-word (x ∷ xs) = go (eqb x space) (some-word xs)
   where
     go : (t : Bool) → (w : List ℕ) × (ws : List (List ℕ)) × (split space ([] ∷ []) xs ≡ w ∷ ws)
-        → (w : List ℕ) × (ws : List (List ℕ)) × (cond t ([] ∷ split space ([] ∷ []) xs) (Rattle.line_text.specs.Bytes.onFirst x (split space ([] ∷ []) xs)) ≡ w ∷ ws)
+        → (w : List ℕ) × (ws : List (List ℕ)) × (cond t ([] ∷ split space ([] ∷ []) xs) (onFirst x (split space ([] ∷ []) xs)) ≡ w ∷ ws)
     go true r = ([], split space ([] ∷ []) xs, refl)
     go false r = (x ∷ r .0, r .1, rw (r .2))
 

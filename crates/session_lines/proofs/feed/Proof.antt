@@ -39,7 +39,15 @@ same-length-3 : tie.Need-same-length-3 Inv-loop μ-loop
 same-length-3 c = c .before .before .loop .inv .5
 
 returns : tie.Need-returns Inv-loop μ-loop
-returns c = let l = c .before .before .loop in record { most = l .inv .0; within = l .inv .1; some = λ h r. some-taken (l .taken) (l .written) (length (l .out)) (l .inv .2) (omega arith) r; all = λ h. omega arith; tells = l .inv .6 }
+returns c =
+    let l = c .before .before .loop in
+    record {
+      most = l .inv .0;
+      within = l .inv .1;
+      some = λ h r. some-taken (l .taken) (l .written) (length (l .out)) (l .inv .2) (omega arith) r;
+      all = λ h. omega arith;
+      tells = l .inv .6;
+    }
 
 sub-turn : tie.Need-sub-turn Inv-loop μ-loop
 sub-turn c = search needs
@@ -54,24 +62,41 @@ turn-requires : tie.Need-turn-requires Inv-loop μ-loop
 turn-requires c κs = search needs
 
 add-taken : tie.Need-add-taken Inv-loop μ-loop
-add-taken c = omega (arith, more-most (c .before .before .before .before .before .before .before .before .before .before .before .before .before .before .before .before .before .before .before .before .args .input .now) _ _ _ _ (c .before .before .before .before .before .before .before .before .before .before .before .before .before .before .before .loop .taken) _ _ _ _ _ _ _ (c .before .before .before .before .before .before .before .before .turn .ensures) (c .before .before .before .before .before .before .before .before .before .before .before .before .before .before .loop-test .taken), c .before .before .before .before .before .before .before .before .before .before .before .before .before .before .before .before .before .before .before .before .good)
+add-taken c =
+    let at-turn = c .before .before .before .before .before .before .before .before in
+    let at-loop-test = at-turn .before .before .before .before .before .before in
+    let at-loop = at-loop-test .before in
+    let start = at-loop .before .before .before .before .before in
+    let most = more-most (start .args .input .now) (at-loop .loop .taken) (at-turn .turn .ensures) (at-loop-test .loop-test .taken) in
+    omega (arith, most, start .good)
 
 loop-less : tie.Need-loop-less Inv-loop μ-loop
-loop-less c = omega (arith, more-some (c .before .before .before .before .before .before .before .before .before .before .before .before .before .before .before .before .before .before .before .before .args .input .now) _ _ _ _ (c .before .before .before .before .before .before .before .before .before .before .before .before .before .before .before .loop .taken) _ _ _ _ _ _ _ (c .before .before .before .before .before .before .before .before .turn .ensures) (c .before .before .before .before .before .before .before .before .before .before .before .before .before .before .loop-test .taken), c .before .before .before .before .before .before .before .before .before .before .before .before .before .before .loop-test .taken)
+loop-less c =
+    let at-turn = c .before .before .before .before .before .before .before .before in
+    let at-loop-test = at-turn .before .before .before .before .before .before in
+    let at-loop = at-loop-test .before in
+    let start = at-loop .before .before .before .before .before in
+    let some = more-some (start .args .input .now) (at-loop .loop .taken) (at-turn .turn .ensures) (at-loop-test .loop-test .taken) in
+    omega (arith, some, at-loop-test .loop-test .taken)
 
 loop-again : tie.Need-loop-again Inv-loop μ-loop
-loop-again c = let l = c .before .before .before .before .before .before .before .before .before .before .before .before .before .before .before .loop in
-    let k = c .before .before .before .before .before .before .before .before .turn in
-    let input = c .before .before .before .before .before .before .before .before .before .before .before .before .before .before .before .before .before .before .before .before .args .input .now in
-    let h = c .before .before .before .before .before .before .before .before .before .before .before .before .before .before .loop-test .taken in
-    let some = more-some input _ _ _ _ (l .taken) _ _ _ _ _ _ _ (k .ensures) h in (
-      more-most input _ _ _ _ (l .taken) _ _ _ _ _ _ _ (k .ensures) h,
+loop-again c =
+    let at-turn = c .before .before .before .before .before .before .before .before in
+    let at-loop-test = at-turn .before .before .before .before .before .before in
+    let at-loop = at-loop-test .before in
+    let start = at-loop .before .before .before .before .before in
+    let l = at-loop .loop in
+    let k = at-turn .turn in
+    let input = start .args .input .now in
+    let h = at-loop-test .loop-test .taken in
+    let some = more-some input (l .taken) (k .ensures) h in (
+      more-most input (l .taken) (k .ensures) h,
       k .ensures .within,
       λ e. omega (arith, some),
       k .kept .1 .0 ∙ l .inv .3,
       k .kept .1 .1 .0 ∙ l .inv .4,
       k .kept .1 .1 .1 .1 .0 ∙ l .inv .5,
-      more-tells input _ _ _ _ (l .taken) (l .written) _ _ _ _ _ _ (k .ensures) (l .inv .6),
+      more-tells input (l .taken) (k .ensures) (l .inv .6),
     )
 
 same-length-4 : tie.Need-same-length-4 Inv-loop μ-loop
@@ -84,7 +109,9 @@ same-length-6 : tie.Need-same-length-6 Inv-loop μ-loop
 same-length-6 c = c .before .loop .inv .5
 
 returns-2 : tie.Need-returns-2 Inv-loop μ-loop
-returns-2 c = let l = c .before .loop in record { most = l .inv .0; within = l .inv .1; some = λ h r. omega arith; all = λ h. omega arith; tells = l .inv .6 }
+returns-2 c =
+    let l = c .before .loop in
+    record { most = l .inv .0; within = l .inv .1; some = λ h r. omega arith; all = λ h. omega arith; tells = l .inv .6 }
 
 pub feed-spec : {M : Type 1} → statement M
 feed-spec =

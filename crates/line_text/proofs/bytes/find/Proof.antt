@@ -22,7 +22,9 @@ shared-slice-read-if1 : tie.Need-shared-slice-read-if1 Inv-loop μ-loop
 shared-slice-read-if1 c = search needs
 
 returns : tie.Need-returns Inv-loop μ-loop
-returns c = let l = c .before .before .before .loop in (sym (before-found _ _ (l .i) (omega arith) (c .if1 .taken)) ∙ l .inv .1, omega arith)
+returns c =
+    let at-loop = c .before .before .before in
+    let l = at-loop .loop in (sym (before-found _ _ (l .i) (omega arith) (c .if1 .taken)) ∙ l .inv .1, omega arith)
 
 add-i : tie.Need-add-i Inv-loop μ-loop
 add-i c = search needs
@@ -31,7 +33,9 @@ loop-less : tie.Need-loop-less Inv-loop μ-loop
 loop-less c = search needs
 
 loop-again : tie.Need-loop-again Inv-loop μ-loop
-loop-again c = let l = c .before .before .before .loop in (omega arith, sym (before-step _ _ (l .i) (omega arith) (c .if1 .left)) ∙ l .inv .1)
+loop-again c =
+    let at-loop = c .before .before .before in
+    let l = at-loop .loop in (omega arith, sym (before-step _ _ (l .i) (omega arith) (c .if1 .left)) ∙ l .inv .1)
 
 returns-2 : tie.Need-returns-2 Inv-loop μ-loop
 returns-2 c = let l = c .before .loop in (sym (before-end _ _ (l .i) (omega arith)) ∙ l .inv .1, omega arith)

@@ -27,7 +27,9 @@ shared-slice-read-if2-2 : tie.Need-shared-slice-read-if2-2 Inv-loop μ-loop
 shared-slice-read-if2-2 c = search needs
 
 returns-2 : tie.Need-returns-2 Inv-loop μ-loop
-returns-2 c = let l = c .before .before .before .before .loop in sym (same-differ _ _ (l .i) (omega arith) (omega arith) (c .if2 .taken)) ∙ l .inv .2
+returns-2 c =
+    let at-loop = c .before .before .before .before in
+    let l = at-loop .loop in sym (same-differ _ _ (l .i) (omega arith) (omega arith) (c .if2 .taken)) ∙ l .inv .2
 
 add-i : tie.Need-add-i Inv-loop μ-loop
 add-i c = search needs
@@ -36,7 +38,9 @@ loop-less : tie.Need-loop-less Inv-loop μ-loop
 loop-less c = search needs
 
 loop-again : tie.Need-loop-again Inv-loop μ-loop
-loop-again c = let l = c .before .before .before .before .loop in (omega arith, l .inv .1, sym (same-step _ _ (l .i) (omega arith) (omega arith) (c .if2 .left)) ∙ l .inv .2)
+loop-again c =
+    let at-loop = c .before .before .before .before in
+    let l = at-loop .loop in (omega arith, l .inv .1, sym (same-step _ _ (l .i) (omega arith) (omega arith) (c .if2 .left)) ∙ l .inv .2)
 
 returns-3 : tie.Need-returns-3 Inv-loop μ-loop
 returns-3 c = let l = c .before .loop in sym (same-end _ _ (l .i) (omega arith) (omega arith)) ∙ l .inv .2

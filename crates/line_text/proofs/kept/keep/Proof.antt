@@ -11,7 +11,12 @@ use Rattle.line_text.proofs.kept.keep.Statement.{statement}
 use Rattle.line_text.proofs.kept.keep.Tie as tie
 
 abbrev Inv-loop : tie.InvT-loop
-Inv-loop line₀ held part n₀ i₀ line n i = (i ≤ length part) × (n ≡ n₀ + i) × (n₀ + i ≤ keptBytes) × (length line ≡ length line₀) × (length line₀ ≡ keptBytes → take (n₀ + i) line ≡ take n₀ line₀ ++ take i part)
+Inv-loop line₀ held part n₀ i₀ line n i =
+    (i ≤ length part)
+    × (n ≡ n₀ + i)
+    × (n₀ + i ≤ keptBytes)
+    × (length line ≡ length line₀)
+    × (length line₀ ≡ keptBytes → take (n₀ + i) line ≡ take n₀ line₀ ++ take i part)
 
 abbrev μ-loop : tie.MeasureT-loop
 μ-loop line₀ held part n₀ i₀ line n i = length part - i
@@ -20,10 +25,23 @@ capped-requires : tie.Need-capped-requires Inv-loop μ-loop
 capped-requires c κs = search needs
 
 loop-holds : tie.Need-loop-holds Inv-loop μ-loop
-loop-holds c = (omega arith, omega arith, omega arith, refl, λ h. word-none (c .before .before .args .line .now) (c .before .before .args .part .now) (c .capped .result))
+loop-holds c =
+    let a = c .before .before .args in
+    (omega arith, omega arith, omega arith, refl, λ h. word-none (a .line .now) (a .part .now) (c .capped .result))
 
 returns : tie.Need-returns Inv-loop μ-loop
-returns c = let l = c .before .before .loop in record { most = omega arith; size = l .inv .3; front = λ h. kept-full (c .before .before .before .before .before .args .line .now) (l .line) (c .before .before .before .before .before .args .part .now) (c .before .before .before .before .before .args .held) (c .before .before .before .capped .result) (l .i) (l .n) (c .before .before .before .capped .ensures) h (l .inv .1) (omega arith) (l .inv .4 h) (omega arith) }
+returns c =
+    let at-loop = c .before .before in
+    let at-capped = at-loop .before in
+    let start = at-capped .before .before in
+    let a = start .args in
+    let l = at-loop .loop in
+    record {
+      most = omega arith;
+      size = l .inv .3;
+      front = λ h. kept-full (a .line .now) (l .line) (a .part .now) (a .held) (l .i) (at-capped .capped .ensures) h
+          (l .inv .1) (omega arith) (l .inv .4 h) (omega arith);
+    }
 
 shared-slice-read-line : tie.Need-shared-slice-read-line Inv-loop μ-loop
 shared-slice-read-line c = search needs
@@ -41,10 +59,32 @@ loop-less : tie.Need-loop-less Inv-loop μ-loop
 loop-less c = search needs
 
 loop-again : tie.Need-loop-again Inv-loop μ-loop
-loop-again c = let l = c .before .before .before .loop in (omega arith, omega arith, omega arith, simp length-set (l .inv .3), λ h. kept-more (c .before .before .before .before .before .before .args .line .now) (l .line) (c .before .before .before .before .before .before .args .part .now) (c .before .before .before .before .capped .result) (l .i) (l .n) (l .inv .1) (omega arith) (omega (arith, l .inv .3)) (l .inv .4 h))
+loop-again c =
+    let at-loop = c .before .before .before in
+    let at-capped = at-loop .before in
+    let start = at-capped .before .before in
+    let a = start .args in
+    let l = at-loop .loop in (
+      omega arith,
+      omega arith,
+      omega arith,
+      simp length-set (l .inv .3),
+      λ h. kept-more (a .line .now) (l .line) (a .part .now) (at-capped .capped .result) (l .i) (l .inv .1) (omega arith) (omega (arith, l .inv .3)) (l .inv .4 h),
+    )
 
 returns-2 : tie.Need-returns-2 Inv-loop μ-loop
-returns-2 c = let l = c .before .loop in record { most = omega arith; size = l .inv .3; front = λ h. kept-all (c .before .before .before .before .args .line .now) (l .line) (c .before .before .before .before .args .part .now) (c .before .before .before .before .args .held) (c .before .before .capped .result) (l .i) (l .n) (c .before .before .capped .ensures) h (l .inv .1) (omega arith) (l .inv .4 h) (omega arith) }
+returns-2 c =
+    let at-loop = c .before in
+    let at-capped = at-loop .before in
+    let start = at-capped .before .before in
+    let a = start .args in
+    let l = at-loop .loop in
+    record {
+      most = omega arith;
+      size = l .inv .3;
+      front = λ h. kept-all (a .line .now) (l .line) (a .part .now) (a .held) (l .i) (at-capped .capped .ensures) h
+          (l .inv .1) (omega arith) (l .inv .4 h) (omega arith);
+    }
 
 pub keep-spec : {M : Type 1} → statement M
 keep-spec =

@@ -21,7 +21,10 @@ enum-told-2 : tie.Need-enum-told-2
 enum-told-2 c = search needs
 
 returns-2 : tie.Need-returns-2
-returns-2 c = rw (c .before .before .before .before .before .a .given .1, c .before .before .b .given .1) (c .with-two .ensures)
+returns-2 c =
+    let at-b = c .before .before in
+    let at-a = at-b .before .before .before in
+    rw (at-a .a .given .1, at-b .b .given .1) (c .with-two .ensures)
 
 returns-3 : tie.Need-returns-3
 returns-3 c = search needs

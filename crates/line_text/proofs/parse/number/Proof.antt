@@ -21,13 +21,20 @@ shared-slice-read-d : tie.Need-shared-slice-read-d Inv-loop μ-loop
 shared-slice-read-d c = search needs
 
 returns : tie.Need-returns Inv-loop μ-loop
-returns c = let l = c .before .before .before .loop in sym (number-below (l .v) _ (l .i) (omega arith) (c .if1 .taken)) ∙ l .inv .2
+returns c =
+    let at-loop = c .before .before .before in
+    let l = at-loop .loop in sym (number-below (l .v) _ (l .i) (omega arith) (c .if1 .taken)) ∙ l .inv .2
 
 returns-2 : tie.Need-returns-2 Inv-loop μ-loop
-returns-2 c = let l = c .before .before .before .before .loop in sym (number-above (l .v) _ (l .i) (omega arith) (c .before .if1 .left) (c .if2 .taken)) ∙ l .inv .2
+returns-2 c =
+    let at-if1 = c .before in
+    let at-loop = at-if1 .before .before .before in
+    let l = at-loop .loop in sym (number-above (l .v) _ (l .i) (omega arith) (at-if1 .if1 .left) (c .if2 .taken)) ∙ l .inv .2
 
 returns-3 : tie.Need-returns-3 Inv-loop μ-loop
-returns-3 c = let l = c .before .before .before .before .before .loop in sym (number-large (l .v) _ (c .if3 .taken)) ∙ l .inv .2
+returns-3 c =
+    let at-loop = c .before .before .before .before .before in
+    let l = at-loop .loop in sym (number-large (l .v) _ (c .if3 .taken)) ∙ l .inv .2
 
 mul-v : tie.Need-mul-v Inv-loop μ-loop
 mul-v c = search needs
@@ -45,7 +52,11 @@ loop-less : tie.Need-loop-less Inv-loop μ-loop
 loop-less c = search needs
 
 loop-again : tie.Need-loop-again Inv-loop μ-loop
-loop-again c = let l = c .before .before .before .before .before .loop in (omega arith, omega arith, sym (number-step (l .v) _ (l .i) (omega arith) (c .before .before .if1 .left) (c .before .if2 .left)) ∙ l .inv .2)
+loop-again c =
+    let at-if2 = c .before in
+    let at-if1 = at-if2 .before in
+    let at-loop = at-if1 .before .before .before in
+    let l = at-loop .loop in (omega arith, omega arith, sym (number-step (l .v) _ (l .i) (omega arith) (at-if1 .if1 .left) (at-if2 .if2 .left)) ∙ l .inv .2)
 
 returns-4 : tie.Need-returns-4 Inv-loop μ-loop
 returns-4 c = let l = c .before .before .loop in sym (number-large (l .v) _ (c .if4 .taken)) ∙ l .inv .2

@@ -20,7 +20,10 @@ number-requires : tie.Need-number-requires
 number-requires c κs = search needs
 
 returns-4 : tie.Need-returns-4
-returns-4 c = c .number .ensures ∙ operand-number _ (c .before .before .before .if1 .left) (c .before .if2 .left)
+returns-4 c =
+    let at-if2 = c .before in
+    let at-if1 = at-if2 .before .before in
+    c .number .ensures ∙ operand-number _ (at-if1 .if1 .left) (at-if2 .if2 .left)
 
 pub operand-spec : {M : Type 1} → statement M
 operand-spec =

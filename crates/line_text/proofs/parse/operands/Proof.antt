@@ -20,7 +20,11 @@ if-one-requires : tie.Need-if-one-requires
 if-one-requires c κs = search needs
 
 returns : tie.Need-returns
-returns c = c .if-one .ensures ∙ one-word _ _ (c .before .before .before .find .result) _ (c .before .operand .ensures) (c .before .before .before .find .ensures .0) (c .before .before .if1 .taken)
+returns c =
+    let at-operand = c .before in
+    let at-if1 = at-operand .before in
+    let at-find = at-if1 .before in
+    c .if-one .ensures ∙ one-word _ _ (at-find .find .result) _ (at-operand .operand .ensures) (at-find .find .ensures .0) (at-if1 .if1 .taken)
 
 add-next : tie.Need-add-next
 add-next c = search needs
@@ -41,7 +45,10 @@ second-operand-requires : tie.Need-second-operand-requires
 second-operand-requires c κs = search needs
 
 returns-2 : tie.Need-returns-2
-returns-2 c = c .second-operand .ensures ∙ more-words _ _ _ (c .before .before .before .before .find .ensures .0) (c .before .before .before .before .find .ensures .1) (c .before .before .before .if1 .left)
+returns-2 c =
+    let at-if1 = c .before .before .before in
+    let at-find = at-if1 .before in
+    c .second-operand .ensures ∙ more-words _ _ _ (at-find .find .ensures .0) (at-find .find .ensures .1) (at-if1 .if1 .left)
 
 pub operands-spec : {M : Type 1} → statement M
 operands-spec =

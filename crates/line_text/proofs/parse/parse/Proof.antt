@@ -8,7 +8,7 @@ use Rattle.line_text.proofs.parse.parse.Statement.{statement}
 use Rattle.line_text.proofs.parse.parse.Tie as tie
 
 returns : tie.Need-returns
-returns c = line-long _ (c .if1 .taken)
+returns c = line-long _ (omega arith)
 
 find-requires : tie.Need-find-requires
 find-requires c κs = search needs
@@ -38,7 +38,10 @@ operands-requires : tie.Need-operands-requires
 operands-requires c κs = search needs
 
 returns-3 : tie.Need-returns-3
-returns-3 c = c .operands .ensures ∙ with-words _ _ (c .before .before .before .before .find .ensures .0) (c .before .before .before .before .find .ensures .1) (c .before .before .before .if2 .left) (omega arith)
+returns-3 c =
+    let at-if2 = c .before .before .before in
+    let at-same2 = at-if2 .before in
+    c .operands .ensures ∙ with-words _ _ (at-same2 .find .ensures .0) (at-same2 .find .ensures .1) (at-if2 .if2 .left) (omega arith)
 
 pub parse-spec : {M : Type 1} → statement M
 parse-spec =

@@ -17,7 +17,15 @@ if-both-requires : tie.Need-if-both-requires
 if-both-requires c κs = search needs
 
 returns : tie.Need-returns
-returns c = c .if-both .ensures ∙ both-words _ _ _ (c .before .before .before .before .find .result) _ _ (c .before .before .operand .ensures) (c .before .operand2 .ensures) (c .before .before .before .before .find .ensures .0) (c .before .before .before .if1 .taken)
+returns c =
+    let at-operand2 = c .before in
+    let at-operand = at-operand2 .before in
+    let at-if1 = at-operand .before in
+    let at-find = at-if1 .before in
+    let f = at-find .find in
+    let first = at-operand .operand .ensures in
+    let second = at-operand2 .operand2 .ensures in
+    c .if-both .ensures ∙ both-words _ _ _ (f .result) _ _ first second (f .ensures .0) (at-if1 .if1 .taken)
 
 returns-2 : tie.Need-returns-2
 returns-2 c = too-many _ _ _ (c .before .find .result) (c .before .find .ensures .0) (c .before .find .ensures .1) (c .if1 .left)

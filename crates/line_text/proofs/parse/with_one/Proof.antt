@@ -20,7 +20,11 @@ same-requires-2 : tie.Need-same-requires-2
 same-requires-2 c κs = search needs
 
 returns-2 : tie.Need-returns-2
-returns-2 c = one-car _ _ (sym (c .before .before .before .before .same .ensures) ∙ c .before .before .before .if1 .left) (sym (c .before .same2 .ensures) ∙ c .if2 .taken)
+returns-2 c =
+    let at-same2 = c .before in
+    let at-if1 = at-same2 .before .before in
+    let at-same = at-if1 .before in
+    one-car _ _ (sym (at-same .same .ensures) ∙ at-if1 .if1 .left) (sym (at-same2 .same2 .ensures) ∙ c .if2 .taken)
 
 slice-aggregate-same-3 : tie.Need-slice-aggregate-same-3
 slice-aggregate-same-3 c = search needs
@@ -29,10 +33,28 @@ same-requires-3 : tie.Need-same-requires-3
 same-requires-3 c κs = search needs
 
 returns-3 : tie.Need-returns-3
-returns-3 c = one-cdr _ _ (sym (c .before .before .before .before .before .before .before .same .ensures) ∙ c .before .before .before .before .before .before .if1 .left) (sym (c .before .before .before .before .same2 .ensures) ∙ c .before .before .before .if2 .left) (sym (c .before .same3 .ensures) ∙ c .if3 .taken)
+returns-3 c =
+    let at-same3 = c .before in
+    let at-if2 = at-same3 .before .before in
+    let at-same2 = at-if2 .before in
+    let at-if1 = at-same2 .before .before in
+    let at-same = at-if1 .before in
+    let not-fresh = sym (at-same .same .ensures) ∙ at-if1 .if1 .left in
+    let not-car = sym (at-same2 .same2 .ensures) ∙ at-if2 .if2 .left in
+    let is-cdr = sym (at-same3 .same3 .ensures) ∙ c .if3 .taken in
+    one-cdr _ _ not-fresh not-car is-cdr
 
 returns-4 : tie.Need-returns-4
-returns-4 c = one-bad _ _ (sym (c .before .before .before .before .before .before .before .same .ensures) ∙ c .before .before .before .before .before .before .if1 .left) (sym (c .before .before .before .before .same2 .ensures) ∙ c .before .before .before .if2 .left) (sym (c .before .same3 .ensures) ∙ c .if3 .left)
+returns-4 c =
+    let at-same3 = c .before in
+    let at-if2 = at-same3 .before .before in
+    let at-same2 = at-if2 .before in
+    let at-if1 = at-same2 .before .before in
+    let at-same = at-if1 .before in
+    let not-fresh = sym (at-same .same .ensures) ∙ at-if1 .if1 .left in
+    let not-car = sym (at-same2 .same2 .ensures) ∙ at-if2 .if2 .left in
+    let not-cdr = sym (at-same3 .same3 .ensures) ∙ c .if3 .left in
+    one-bad _ _ not-fresh not-car not-cdr
 
 pub with-one-spec : {M : Type 1} → statement M
 with-one-spec =

@@ -20,7 +20,11 @@ same-requires-2 : tie.Need-same-requires-2
 same-requires-2 c κs = search needs
 
 returns-2 : tie.Need-returns-2
-returns-2 c = two-setl _ _ _ (sym (c .before .before .before .before .same .ensures) ∙ c .before .before .before .if1 .left) (sym (c .before .same2 .ensures) ∙ c .if2 .taken)
+returns-2 c =
+    let at-same2 = c .before in
+    let at-if1 = at-same2 .before .before in
+    let at-same = at-if1 .before in
+    two-setl _ _ _ (sym (at-same .same .ensures) ∙ at-if1 .if1 .left) (sym (at-same2 .same2 .ensures) ∙ c .if2 .taken)
 
 slice-aggregate-same-3 : tie.Need-slice-aggregate-same-3
 slice-aggregate-same-3 c = search needs
@@ -29,7 +33,16 @@ same-requires-3 : tie.Need-same-requires-3
 same-requires-3 c κs = search needs
 
 returns-3 : tie.Need-returns-3
-returns-3 c = two-setr _ _ _ (sym (c .before .before .before .before .before .before .before .same .ensures) ∙ c .before .before .before .before .before .before .if1 .left) (sym (c .before .before .before .before .same2 .ensures) ∙ c .before .before .before .if2 .left) (sym (c .before .same3 .ensures) ∙ c .if3 .taken)
+returns-3 c =
+    let at-same3 = c .before in
+    let at-if2 = at-same3 .before .before in
+    let at-same2 = at-if2 .before in
+    let at-if1 = at-same2 .before .before in
+    let at-same = at-if1 .before in
+    let not-cons = sym (at-same .same .ensures) ∙ at-if1 .if1 .left in
+    let not-setl = sym (at-same2 .same2 .ensures) ∙ at-if2 .if2 .left in
+    let is-setr = sym (at-same3 .same3 .ensures) ∙ c .if3 .taken in
+    two-setr _ _ _ not-cons not-setl is-setr
 
 slice-aggregate-same-4 : tie.Need-slice-aggregate-same-4
 slice-aggregate-same-4 c = search needs
@@ -38,7 +51,19 @@ same-requires-4 : tie.Need-same-requires-4
 same-requires-4 c κs = search needs
 
 returns-4 : tie.Need-returns-4
-returns-4 c = two-up _ _ _ (sym (c .before .before .before .before .before .before .before .before .before .before .same .ensures) ∙ c .before .before .before .before .before .before .before .before .before .if1 .left) (sym (c .before .before .before .before .before .before .before .same2 .ensures) ∙ c .before .before .before .before .before .before .if2 .left) (sym (c .before .before .before .before .same3 .ensures) ∙ c .before .before .before .if3 .left) (sym (c .before .same4 .ensures) ∙ c .if4 .taken)
+returns-4 c =
+    let at-same4 = c .before in
+    let at-if3 = at-same4 .before .before in
+    let at-same3 = at-if3 .before in
+    let at-if2 = at-same3 .before .before in
+    let at-same2 = at-if2 .before in
+    let at-if1 = at-same2 .before .before in
+    let at-same = at-if1 .before in
+    let not-cons = sym (at-same .same .ensures) ∙ at-if1 .if1 .left in
+    let not-setl = sym (at-same2 .same2 .ensures) ∙ at-if2 .if2 .left in
+    let not-setr = sym (at-same3 .same3 .ensures) ∙ at-if3 .if3 .left in
+    let is-up = sym (at-same4 .same4 .ensures) ∙ c .if4 .taken in
+    two-up _ _ _ not-cons not-setl not-setr is-up
 
 slice-aggregate-same-5 : tie.Need-slice-aggregate-same-5
 slice-aggregate-same-5 c = search needs
@@ -47,10 +72,40 @@ same-requires-5 : tie.Need-same-requires-5
 same-requires-5 c κs = search needs
 
 returns-5 : tie.Need-returns-5
-returns-5 c = two-down _ _ _ (sym (c .before .before .before .before .before .before .before .before .before .before .before .before .before .same .ensures) ∙ c .before .before .before .before .before .before .before .before .before .before .before .before .if1 .left) (sym (c .before .before .before .before .before .before .before .before .before .before .same2 .ensures) ∙ c .before .before .before .before .before .before .before .before .before .if2 .left) (sym (c .before .before .before .before .before .before .before .same3 .ensures) ∙ c .before .before .before .before .before .before .if3 .left) (sym (c .before .before .before .before .same4 .ensures) ∙ c .before .before .before .if4 .left) (sym (c .before .same5 .ensures) ∙ c .if5 .taken)
+returns-5 c =
+    let at-same5 = c .before in
+    let at-if4 = at-same5 .before .before in
+    let at-same4 = at-if4 .before in
+    let at-if3 = at-same4 .before .before in
+    let at-same3 = at-if3 .before in
+    let at-if2 = at-same3 .before .before in
+    let at-same2 = at-if2 .before in
+    let at-if1 = at-same2 .before .before in
+    let at-same = at-if1 .before in
+    let not-cons = sym (at-same .same .ensures) ∙ at-if1 .if1 .left in
+    let not-setl = sym (at-same2 .same2 .ensures) ∙ at-if2 .if2 .left in
+    let not-setr = sym (at-same3 .same3 .ensures) ∙ at-if3 .if3 .left in
+    let not-up = sym (at-same4 .same4 .ensures) ∙ at-if4 .if4 .left in
+    let is-down = sym (at-same5 .same5 .ensures) ∙ c .if5 .taken in
+    two-down _ _ _ not-cons not-setl not-setr not-up is-down
 
 returns-6 : tie.Need-returns-6
-returns-6 c = two-bad _ _ _ (sym (c .before .before .before .before .before .before .before .before .before .before .before .before .before .same .ensures) ∙ c .before .before .before .before .before .before .before .before .before .before .before .before .if1 .left) (sym (c .before .before .before .before .before .before .before .before .before .before .same2 .ensures) ∙ c .before .before .before .before .before .before .before .before .before .if2 .left) (sym (c .before .before .before .before .before .before .before .same3 .ensures) ∙ c .before .before .before .before .before .before .if3 .left) (sym (c .before .before .before .before .same4 .ensures) ∙ c .before .before .before .if4 .left) (sym (c .before .same5 .ensures) ∙ c .if5 .left)
+returns-6 c =
+    let at-same5 = c .before in
+    let at-if4 = at-same5 .before .before in
+    let at-same4 = at-if4 .before in
+    let at-if3 = at-same4 .before .before in
+    let at-same3 = at-if3 .before in
+    let at-if2 = at-same3 .before .before in
+    let at-same2 = at-if2 .before in
+    let at-if1 = at-same2 .before .before in
+    let at-same = at-if1 .before in
+    let not-cons = sym (at-same .same .ensures) ∙ at-if1 .if1 .left in
+    let not-setl = sym (at-same2 .same2 .ensures) ∙ at-if2 .if2 .left in
+    let not-setr = sym (at-same3 .same3 .ensures) ∙ at-if3 .if3 .left in
+    let not-up = sym (at-same4 .same4 .ensures) ∙ at-if4 .if4 .left in
+    let not-down = sym (at-same5 .same5 .ensures) ∙ c .if5 .left in
+    two-bad _ _ _ not-cons not-setl not-setr not-up not-down
 
 pub with-two-spec : {M : Type 1} → statement M
 with-two-spec =

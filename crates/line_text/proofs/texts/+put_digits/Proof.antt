@@ -69,7 +69,9 @@ put-digits-returns-2 : (t : ℕ) → put-digits-lts.Need-returns-2 (
   put-digits-below t,
   put-digits.Post,
 ) (put-digits-at t) put-digits.Post
-put-digits-returns-2 t c = rw (digits-one (c .before .before .before .args .most) (c .before .before .before .args .n) (omega arith) (c .if2 .taken)) (put-byte _ _ _ (omega arith))
+put-digits-returns-2 t c =
+    let a = c .before .before .before .args in
+    rw (digits-one (a .most) (a .n) (omega arith) (c .if2 .taken)) (put-byte _ _ _ (omega arith))
 
 put-digits-sub-put-digits : (t : ℕ) → put-digits-lts.Need-sub-put-digits (
   put-digits-below t,
@@ -89,8 +91,11 @@ room :
     (c : put-digits-lts.After-slice-known2 (put-digits-below t, put-digits.Post) (put-digits-at t) put-digits.Post) →
     c .before .before .put-digits .result < length (c .before .before .put-digits .last .0)
 room t c =
-    let a = c .before .before .before .before .before .before .before .args in
-    omega (arith, c .before .before .put-digits .ensures .ends, c .before .before .put-digits .kept .0, digits-length (a .most - 1) (a .n / 10), c .before .before .before .before .before .before .before .pre)
+    let at-put-digits = c .before .before in
+    let start = at-put-digits .before .before .before .before .before in
+    let a = start .args in
+    let put = at-put-digits .put-digits in
+    omega (arith, put .ensures .ends, put .kept .0, digits-length (a .most - 1) (a .n / 10), start .pre)
 
 put-digits-cast-out-2 : (t : ℕ) → put-digits-lts.Need-cast-out-2 (
   put-digits-below t,
@@ -126,7 +131,10 @@ put-digits-returns-3 : (t : ℕ) → put-digits-lts.Need-returns-3 (
   put-digits-below t,
   put-digits.Post,
 ) (put-digits-at t) put-digits.Post
-put-digits-returns-3 t c = rw (digits-more (c .before .before .before .before .before .before .before .args .most) (c .before .before .before .before .before .before .before .args .n) (omega arith) (omega arith)) (put-both (c .before .before .put-digits .ensures) (put-byte _ _ _ (room t c)))
+put-digits-returns-3 t c =
+    let at-put-digits = c .before .before in
+    let a = at-put-digits .before .before .before .before .before .args in
+    rw (digits-more (a .most) (a .n) (omega arith) (omega arith)) (put-both (at-put-digits .put-digits .ensures) (put-byte _ _ _ (room t c)))
 
 pub +put-digits-spec : {M : Type 1} → statement M
 +put-digits-spec = close μ-put-digits λ t. put-digits-lts.spec (

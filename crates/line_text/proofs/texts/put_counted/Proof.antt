@@ -13,7 +13,10 @@ same-length : tie.Need-same-length
 same-length c = search needs
 
 returns : tie.Need-returns
-returns c = put-both (c .before .before .before .before .before .before .put-word .ensures) (c .before .before .put-digits .ensures)
+returns c =
+    let at-put-digits = c .before .before in
+    let at-put-word = at-put-digits .before .before .before .before in
+    put-both (at-put-word .put-word .ensures) (at-put-digits .put-digits .ensures)
 
 pub put-counted-spec : {M : Type 1} → statement M
 put-counted-spec = tie.close (tie.spec put-word-requires put-digits-requires same-length returns)

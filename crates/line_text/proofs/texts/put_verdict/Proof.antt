@@ -42,25 +42,37 @@ same-length : tie.Need-same-length
 same-length c = search needs
 
 returns : tie.Need-returns
-returns c = rw (c .before .before .before .before .before .before .verdict .given .1) (c .before .before .put-counted .ensures)
+returns c =
+    let at-put-counted = c .before .before in
+    let at-verdict = at-put-counted .before .before .before .before in
+    rw (at-verdict .verdict .given .1) (at-put-counted .put-counted .ensures)
 
 same-length-2 : tie.Need-same-length-2
 same-length-2 c = search needs
 
 returns-2 : tie.Need-returns-2
-returns-2 c = rw (c .before .before .before .before .before .before .verdict2 .given .1) (c .before .before .put-counted2 .ensures)
+returns-2 c =
+    let at-put-counted2 = c .before .before in
+    let at-verdict2 = at-put-counted2 .before .before .before .before in
+    rw (at-verdict2 .verdict2 .given .1) (at-put-counted2 .put-counted2 .ensures)
 
 same-length-3 : tie.Need-same-length-3
 same-length-3 c = search needs
 
 returns-3 : tie.Need-returns-3
-returns-3 c = rw (c .before .before .before .before .before .enum-told .given .1) (c .before .before .put-word .ensures)
+returns-3 c =
+    let at-put-word = c .before .before in
+    let at-enum-told = at-put-word .before .before .before in
+    rw (at-enum-told .enum-told .given .1) (at-put-word .put-word .ensures)
 
 same-length-4 : tie.Need-same-length-4
 same-length-4 c = search needs
 
 returns-4 : tie.Need-returns-4
-returns-4 c = rw (c .before .before .before .before .before .enum-told2 .given .1) (c .before .before .put-word2 .ensures)
+returns-4 c =
+    let at-put-word2 = c .before .before in
+    let at-enum-told2 = at-put-word2 .before .before .before in
+    rw (at-enum-told2 .enum-told2 .given .1) (at-put-word2 .put-word2 .ensures)
 
 pub put-verdict-spec : {M : Type 1} → statement M
 put-verdict-spec =
