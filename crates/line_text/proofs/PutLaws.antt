@@ -12,6 +12,7 @@ use lib.Seq.{take-all, take-suc, take-suc-set}
 use borrow.Author.Tests.{lt-ltb, le-ltb, ltb-true, ltb-false}
 use Rattle.line_text.specs.declared.Verdict
 use Rattle.line_text.specs.declared.Verdict.{Verdict}
+use Rattle.line_text.specs.Bytes.{digitZero}
 use Rattle.line_text.specs.Texts.{digits, mostDigits, verdictRoom, verdictText, room, outputLine}
 use Rattle.line_text.specs.Put.{Put}
 
@@ -49,7 +50,7 @@ pub digits-none : (most n : ℕ) → most ≡ 0 → digits most n ≡ []
 unfolding digits
 digits-none most n e = rw e
 
-pub digits-one : (most n : ℕ) → 0 < most → n < 10 → digits most n ≡ (48 + n) ∷ []
+pub digits-one : (most n : ℕ) → 0 < most → n < 10 → digits most n ≡ (digitZero + n) ∷ []
 unfolding digits
 digits-one zero n h d = absurd (lt-zero h)
   where
@@ -57,7 +58,7 @@ digits-one zero n h d = absurd (lt-zero h)
     lt-zero p = omega arith
 digits-one (suc most) n h d = rw (lt-ltb n 10 d)
 
-pub digits-more : (most n : ℕ) → 0 < most → 10 ≤ n → digits most n ≡ digits (most - 1) (n / 10) ++ ((48 + n % 10) ∷ [])
+pub digits-more : (most n : ℕ) → 0 < most → 10 ≤ n → digits most n ≡ digits (most - 1) (n / 10) ++ ((digitZero + n % 10) ∷ [])
 unfolding digits
 digits-more zero n h d = absurd (lt-zero h)
   where
@@ -70,9 +71,10 @@ unfolding digits
 digits-length zero n = zero-le
 digits-length (suc most) n = go (ltb n 10) (digits-length most (n / 10))
   where
-    go : (b : Bool) → length (digits most (n / 10)) ≤ most → length (cond b ((48 + n) ∷ []) (digits most (n / 10) ++ ((48 + n % 10) ∷ []))) ≤ suc most
+    go : (b : Bool) → length (digits most (n / 10)) ≤ most
+        → length (cond b ((digitZero + n) ∷ []) (digits most (n / 10) ++ ((digitZero + n % 10) ∷ []))) ≤ suc most
     go true h = omega arith
-    go false h = omega (arith, length-append (digits most (n / 10)) ((48 + n % 10) ∷ []))
+    go false h = omega (arith, length-append (digits most (n / 10)) ((digitZero + n % 10) ∷ []))
 
 pub word-none : (out word : List ℕ) (at : ℕ) → take (at + 0) out ≡ take at out ++ take 0 word
 word-none out word at = rw (add-zero at) (put-none out at .front)

@@ -14,7 +14,7 @@ use Rattle.line_text.specs.declared.Operand
 use Rattle.line_text.specs.declared.Operand.{Operand}
 use Rattle.line_text.specs.declared.Request
 use Rattle.line_text.specs.declared.Request.{Request}
-use Rattle.line_text.specs.Bytes.{ascii, sameBytes, before, onFirst, split, wordsOf, space}
+use Rattle.line_text.specs.Bytes.{digitZero, ascii, sameBytes, before, onFirst, split, wordsOf, space}
 use Rattle.line_text.specs.Requests.{numberFrom, zeroAlone, operandOf, withNone, withOne, withTwo, ifOne, ifBoth, byWords, requestOf, mostBytes}
 use Rattle.line_text.proofs.WordLaws.{split-all, split-at}
 
@@ -83,28 +83,28 @@ operand-none (d ∷ ds) h = absurd (never h)
     never : suc (length ds) ≡ 0 → ⊥
     never p = omega arith
 
-pub operand-zero : (s : List ℕ) → getD s 0 0 ≡ 48 → length s ≡ 1 → Operand.Number 0 ≡ operandOf s
+pub operand-zero : (s : List ℕ) → getD s 0 0 ≡ digitZero → length s ≡ 1 → Operand.Number 0 ≡ operandOf s
 unfolding operandOf
 operand-zero [] e h = absurd (never h)
   where
     never : _≡_ {A = ℕ} 0 1 → ⊥
     never p = omega arith
-operand-zero (d ∷ []) e h = rw (eq-eqb d 48 e)
+operand-zero (d ∷ []) e h = rw (eq-eqb d digitZero e)
 operand-zero (d ∷ b ∷ ds) e h = absurd (never h)
   where
     never : suc (suc (length ds)) ≡ 1 → ⊥
     never p = omega arith
 
-pub operand-leading : (s : List ℕ) → getD s 0 0 ≡ 48 → (length s ≡ 1 → ⊥) → Operand.Nothing ≡ operandOf s
+pub operand-leading : (s : List ℕ) → getD s 0 0 ≡ digitZero → (length s ≡ 1 → ⊥) → Operand.Nothing ≡ operandOf s
 unfolding operandOf
 operand-leading [] e h = refl
 operand-leading (d ∷ []) e h = absurd (h refl)
-operand-leading (d ∷ b ∷ ds) e h = rw (eq-eqb d 48 e)
+operand-leading (d ∷ b ∷ ds) e h = rw (eq-eqb d digitZero e)
 
-pub operand-number : (s : List ℕ) → (length s ≡ 0 → ⊥) → (getD s 0 0 ≡ 48 → ⊥) → numberFrom 0 s ≡ operandOf s
+pub operand-number : (s : List ℕ) → (length s ≡ 0 → ⊥) → (getD s 0 0 ≡ digitZero → ⊥) → numberFrom 0 s ≡ operandOf s
 unfolding operandOf
 operand-number [] l e = absurd (l refl)
-operand-number (d ∷ ds) l e = rw (ne-eqb d 48 e)
+operand-number (d ∷ ds) l e = rw (ne-eqb d digitZero e)
 
 -- the words of what follows a keyword, by the place of the next space
 pub words-one : (s : List ℕ) (n : ℕ) → n ≡ before space s → n ≡ length s → wordsOf s ≡ s ∷ []
@@ -142,7 +142,8 @@ pub one-word : (k s : List ℕ) (n : ℕ) (a : Operand) → a ≡ operandOf s �
 unfolding byWords
 one-word k s n a ea e h = rw (words-one s n e h, ea)
 
-pub both-words : (k u s : List ℕ) (n : ℕ) (a b : Operand) → a ≡ operandOf u → b ≡ operandOf s → n ≡ before space s → n ≡ length s → ifBoth k a b ≡ byWords (k ∷ u ∷ wordsOf s)
+pub both-words : (k u s : List ℕ) (n : ℕ) (a b : Operand) → a ≡ operandOf u → b ≡ operandOf s → n ≡ before space s → n ≡ length s
+    → ifBoth k a b ≡ byWords (k ∷ u ∷ wordsOf s)
 unfolding byWords
 both-words k u s n a b ea eb e h = rw (words-one s n e h, ea, eb)
 

@@ -12,6 +12,13 @@ lineFeed = 10
 abbrev pub space : ℕ
 space = 32
 
+-- the digits 0 and 9
+abbrev pub digitZero : ℕ
+digitZero = 48
+
+abbrev pub digitNine : ℕ
+digitNine = 57
+
 -- a text of ASCII as its bytes
 abbrev pub ascii : String → List ℕ
 ascii end = []

@@ -8,16 +8,20 @@ use Rattle.line_text.specs.declared.Operand
 use Rattle.line_text.specs.declared.Operand.{Operand}
 use Rattle.line_text.specs.declared.Request
 use Rattle.line_text.specs.declared.Request.{Request}
-use Rattle.line_text.specs.Bytes.{ascii, sameBytes, wordsOf}
+use Rattle.line_text.specs.Bytes.{digitZero, digitNine, ascii, sameBytes, wordsOf}
 
 -- 0 to 9
 abbrev pub isDigit : ℕ → Bool
-isDigit b = leb 48 b && leb b 57
+isDigit b = leb digitZero b && leb b digitNine
+
+-- the largest operand
+abbrev pub mostOperand : ℕ
+mostOperand = 65535
 
 -- the number that v and then these digits give, if all are digits and it is at most 65,535
 unfoldable pub numberFrom : ℕ → List ℕ → Operand
-numberFrom v [] = cond (leb v 65535) (Operand.Number v) Operand.Nothing
-numberFrom v (d ∷ ds) = cond (isDigit d) (numberFrom (10 * v + (d - 48)) ds) Operand.Nothing
+numberFrom v [] = cond (leb v mostOperand) (Operand.Number v) Operand.Nothing
+numberFrom v (d ∷ ds) = cond (isDigit d) (numberFrom (10 * v + (d - digitZero)) ds) Operand.Nothing
 
 -- after a leading 0 nothing follows
 abbrev pub zeroAlone : List ℕ → Operand
@@ -27,7 +31,7 @@ zeroAlone (d ∷ ds) = Operand.Nothing
 -- an operand: 0 to 65,535 in base ten without leading zeros
 unfoldable pub operandOf : List ℕ → Operand
 operandOf [] = Operand.Nothing
-operandOf (d ∷ ds) = cond (eqb d 48) (zeroAlone ds) (numberFrom 0 (d ∷ ds))
+operandOf (d ∷ ds) = cond (eqb d digitZero) (zeroAlone ds) (numberFrom 0 (d ∷ ds))
 
 unfoldable pub withNone : List ℕ → Request
 withNone k = cond (sameBytes k (ascii "step")) Request.Step Request.Bad

@@ -5,12 +5,12 @@ use Prim.Native.Nat.{ℕ, zero, suc, _+_, _/_, _%_}
 use lib.Dec.{ltb}
 use Rattle.line_text.specs.declared.Verdict
 use Rattle.line_text.specs.declared.Verdict.{Verdict}
-use Rattle.line_text.specs.Bytes.{ascii, lineFeed, space}
+use Rattle.line_text.specs.Bytes.{digitZero, ascii, lineFeed, space}
 
 -- a number in base ten, of at most so many digits
 unfoldable pub digits : ℕ → ℕ → List ℕ
 digits zero n = []
-digits (suc most) n = cond (ltb n 10) ((48 + n) ∷ []) (digits most (n / 10) ++ ((48 + n % 10) ∷ []))
+digits (suc most) n = cond (ltb n 10) ((digitZero + n) ∷ []) (digits most (n / 10) ++ ((digitZero + n % 10) ∷ []))
 
 -- every number here is below 2^64, so 20 digits are enough
 abbrev pub mostDigits : ℕ

@@ -11,6 +11,9 @@ ghost use Rattle.line_text.specs.Requests.{numberFrom, operandOf, withNo
 // The most bytes of a line, its line feed not counted.
 pub const MOST_BYTES: usize = 80;
 
+// The largest operand.
+const MOST_OPERAND: u32 = u16::MAX as u32;
+
 // The number that these digits give, with or without leading zeros.
 fn number(s: &[u8]) -> Operand
     ensures { λ r. ⌜ r ≡ numberFrom 0 (now (s .entry)) ⌝ }
@@ -19,19 +22,19 @@ fn number(s: &[u8]) -> Operand
     let mut i = 0;
     while i < s.len() {
         let d = s[i];
-        if d < 48 {
+        if d < b'0' {
             return Operand::Nothing;
         }
-        if 57 < d {
+        if b'9' < d {
             return Operand::Nothing;
         }
-        if 65535 < v {
+        if MOST_OPERAND < v {
             return Operand::Nothing;
         }
-        v = 10 * v + ((d - 48) as u32);
+        v = 10 * v + ((d - b'0') as u32);
         i += 1;
     }
-    if 65535 < v {
+    if MOST_OPERAND < v {
         return Operand::Nothing;
     }
     Operand::Number(v as u16)
@@ -43,7 +46,7 @@ fn operand(s: &[u8]) -> Operand
     if s.len() == 0 {
         return Operand::Nothing;
     }
-    if s[0] == 48 {
+    if s[0] == b'0' {
         if s.len() == 1 {
             return Operand::Number(0);
         }

@@ -27,11 +27,11 @@ fn put_digits(out: &mut [u8], at: usize, most: usize, n: u64) -> usize
         return at;
     }
     if n < 10 {
-        out[at] = 48 + (n as u8);
+        out[at] = b'0' + (n as u8);
         return at + 1;
     }
     let end = put_digits(out, at, most - 1, n / 10);
-    out[end] = 48 + ((n % 10) as u8);
+    out[end] = b'0' + ((n % 10) as u8);
     end + 1
 }
 

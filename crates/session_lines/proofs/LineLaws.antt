@@ -50,7 +50,8 @@ lines-joined begun (b ∷ xs) rest h = go (eqb b lineFeed) h (lines-joined (begu
         ∙ ap (λ (u : List ℕ). onto u (linesOf rest)) (append-assoc begun (b ∷ []) xs)
 
 -- up to its line feed a line is whole
-pub lines-ended : (x rest : List ℕ) → before lineFeed x < length x → linesOf (take (suc (before lineFeed x)) x ++ rest) ≡ take (before lineFeed x) x ∷ linesOf rest
+pub lines-ended : (x rest : List ℕ) → before lineFeed x < length x
+    → linesOf (take (suc (before lineFeed x)) x ++ rest) ≡ take (before lineFeed x) x ∷ linesOf rest
 unfolding before split
 lines-ended [] rest h = absurd (never h)
   where

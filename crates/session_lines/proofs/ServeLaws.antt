@@ -109,7 +109,8 @@ unfolding called
 called-by s call r v s′ er es ev = (ev ∙ ap verdictOf er, es)
 
 -- what a caller makes of a reply: its verdict, beside the queue
-module _ {t : List ℕ} {q : Queue} {scratch t′ : List ℕ} {q′ q″ : Queue} {v : Verdict} {r : Reply} (told : (v ≡ verdictOf r) × (q″ ≡ q′)) (g : Good t q) where
+module _ {t : List ℕ} {q : Queue} {scratch t′ : List ℕ} {q′ q″ : Queue} {v : Verdict} {r : Reply}
+    (told : (v ≡ verdictOf r) × (q″ ≡ q′)) (g : Good t q) where
   from-lent : (call : Call) → machine (store t q scratch) call ≡ beside t q scratch (machine (store t q []) call)
       → Promise (store t q []) call r (store t′ q′ [])
       → (v ≡ called (store t q scratch) call .verdict) × (store t′ q″ scratch ≡ called (store t q scratch) call .after) × Good t′ q″

@@ -60,7 +60,8 @@ module _ (s : Session) (input : List ℕ) {feed : ℕ} {new : List ℕ} {held : 
   front = kept .front size
 
   -- without a line feed all joins the line
-  pub joined-tells : {t scratch : List ℕ} → feed ≡ length input → Tells s t scratch (take feed input) [] (session new held (s .lines) (s .queue)) t scratch
+  pub joined-tells : {t scratch : List ℕ} → feed ≡ length input
+      → Tells s t scratch (take feed input) [] (session new held (s .lines) (s .queue)) t scratch
   unfolding ahead
   joined-tells {t} {scratch} all = record {
     good = λ g. g;

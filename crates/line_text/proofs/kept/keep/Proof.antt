@@ -69,7 +69,8 @@ loop-again c =
       omega arith,
       omega arith,
       simp length-set (l .inv .3),
-      λ h. kept-more (a .line .now) (l .line) (a .part .now) (at-capped .capped .result) (l .i) (l .inv .1) (omega arith) (omega (arith, l .inv .3)) (l .inv .4 h),
+      λ h. kept-more (a .line .now) (l .line) (a .part .now) (at-capped .capped .result) (l .i)
+          (l .inv .1) (omega arith) (omega (arith, l .inv .3)) (l .inv .4 h),
     )
 
 returns-2 : tie.Need-returns-2 Inv-loop μ-loop

@@ -1,15 +1,15 @@
 use mathlib.Core.Path.{_≡_, refl, sym, _∙_}
-use Prim.Native.Nat.{_-_, _≤_}
+use Prim.Native.Nat.{_+_, _-_, _*_, _≤_}
 use native.Mathlib.Omega.{arith}
 use lib.ListN.{length, drop}
 use borrow.Author.Needs.{needs}
-use Rattle.line_text.specs.Requests.{numberFrom}
+use Rattle.line_text.specs.Requests.{mostOperand, numberFrom}
 use Rattle.line_text.proofs.ByteLaws.{number-large, number-step, number-below, number-above, number-end}
 use Rattle.line_text.proofs.parse.number.Statement.{statement}
 use Rattle.line_text.proofs.parse.number.Tie as tie
 
 abbrev Inv-loop : tie.InvT-loop
-Inv-loop s v₀ i₀ v i = (i ≤ length s) × (v ≤ 655359) × (numberFrom v (drop i s) ≡ numberFrom 0 s)
+Inv-loop s v₀ i₀ v i = (i ≤ length s) × (v ≤ 10 * mostOperand + 9) × (numberFrom v (drop i s) ≡ numberFrom 0 s)
 
 abbrev μ-loop : tie.MeasureT-loop
 μ-loop s v₀ i₀ v i = length s - i
@@ -56,7 +56,9 @@ loop-again c =
     let at-if2 = c .before in
     let at-if1 = at-if2 .before in
     let at-loop = at-if1 .before .before .before in
-    let l = at-loop .loop in (omega arith, omega arith, sym (number-step (l .v) _ (l .i) (omega arith) (at-if1 .if1 .left) (at-if2 .if2 .left)) ∙ l .inv .2)
+    let l = at-loop .loop in
+    let digit = at-if2 .if2 .left in
+    (omega arith, omega arith, sym (number-step (l .v) _ (l .i) (omega arith) (at-if1 .if1 .left) digit) ∙ l .inv .2)
 
 returns-4 : tie.Need-returns-4 Inv-loop μ-loop
 returns-4 c = let l = c .before .before .loop in sym (number-large (l .v) _ (c .if4 .taken)) ∙ l .inv .2
