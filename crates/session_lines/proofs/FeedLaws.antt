@@ -17,6 +17,16 @@ use Rattle.line_text.proofs.WordLaws.{append-none}
 use Rattle.line_text.proofs.KeepLaws.{take-cap}
 use Rattle.session_lines.proofs.TurnLaws.{tells-both}
 
+-- How far the turns have come: the sizes stand, and what was taken gave what was written.
+pub record Going (table₀ scratch₀ input out₀ : List ℕ) (s₀ : Session) (table scratch out : List ℕ) (s : Session) (taken written : ℕ) : Type 0 where
+  pub most : taken ≤ length input
+  pub within : written ≤ length out
+  pub nothing : taken ≡ 0 → written ≡ 0
+  pub tableSize : length table ≡ length table₀
+  pub scratchSize : length scratch ≡ length scratch₀
+  pub outSize : length out ≡ length out₀
+  pub tells : Tells s₀ table₀ scratch₀ (take taken input) (take written out) s table scratch
+
 -- a turn on the rest of the input
 module _ (input : List ℕ) (taken : ℕ) {out : List ℕ} {s₁ : Session} {t₁ scratch₁ : List ℕ} {written : ℕ}
     {s₂ : Session} {more end : ℕ} {t₂ scratch₂ new : List ℕ}
