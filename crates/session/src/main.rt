@@ -2,8 +2,11 @@
 use libc::STDIN_FILENO;
 use libc::STDOUT_FILENO;
 use session_lines::Session;
+ghost use mathlib.Core.Path.{_≡_};
 ghost use Prim.Native.Nat.{_≤_, _<_};
 ghost use lib.ListN.{length};
+ghost use Rattle.line_text.specs.Texts.{room};
+ghost use Rattle.session_lines.specs.Whole.{begin};
 
 // After a part of the input: the session, and whether to go on; where its output could not be written there is no use.
 struct Relayed {
@@ -19,7 +22,7 @@ fn relay(
     input: &[u8],
     out: &mut [u8],
 ) -> Relayed
-    requires { ⌜ 45 ≤ length (now out) ⌝ }
+    requires { ⌜ room ≤ length (now out) ⌝ }
 {
     let mut present = session;
     let mut from = 0;
@@ -50,7 +53,7 @@ fn read_part(
     input: &mut [u8],
     out: &mut [u8],
 ) -> Relayed
-    requires { ⌜ 45 ≤ length (now out) ⌝ }
+    requires { ⌜ room ≤ length (now out) ⌝ }
 {
     let got = libc::read(STDIN_FILENO, input);
     let n = io::count(got, input);
@@ -74,9 +77,10 @@ fn left(reads: u64, going: bool) -> u64
     0
 }
 
+// It begins with the table and the scratch of the theorem on whole sessions.
 // A proved loop has to end, and nothing says that the input does: so the reads are counted down, from a number that no run uses up.
 fn run(table: &mut [u16], scratch: &mut [u16], input: &mut [u8], out: &mut [u8])
-    requires { ⌜ 45 ≤ length (now out) ⌝ }
+    requires { ⌜ (now table ≡ begin .table) × (now scratch ≡ begin .scratch) × (room ≤ length (now out)) ⌝ }
 {
     let mut present = Session::start();
     let mut reads = u64::MAX;
@@ -91,8 +95,8 @@ fn run(table: &mut [u16], scratch: &mut [u16], input: &mut [u8], out: &mut [u8])
 }
 
 fn main() {
-    let mut table = [0u16; 20483];
-    let mut scratch = [0u16; 4096];
+    let mut table = [0u16; cells::MOST_WORDS];
+    let mut scratch = [0u16; machine::MOST_CELLS as usize];
     let mut input = io::large_buffer();
     let mut out = io::large_buffer();
     run(&mut table, &mut scratch, &mut input, &mut out);

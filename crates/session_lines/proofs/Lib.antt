@@ -1,10 +1,5 @@
 pub mod Known
-pub mod ByteLaws
-pub mod PutLaws
-pub mod WordLaws
-pub mod RequestLaws
 pub mod ServeLaws
-pub mod KeepLaws
 pub mod LineLaws
 pub mod TurnLaws
 pub mod FeedLaws

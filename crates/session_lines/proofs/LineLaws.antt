@@ -1,4 +1,4 @@
--- Lines that come in parts: a line that has begun, its end, and why 81 bytes of it are enough.
+-- Lines that come in parts: a line that has begun, its end, and why its first bytes are enough.
 use mathlib.Core.Path.{_≡_, refl, sym, ap, _∙_}
 use mathlib.Core.Bool.{Bool, true, false, cond}
 use mathlib.Core.List.{List, [], _∷_, _++_, append-assoc}
@@ -9,12 +9,13 @@ use lib.ListN.{length, take, length-append}
 use lib.Seq.{take-all, length-take-le}
 use borrow.Author.Tests.{leb-true, leb-false}
 use Rattle.machine.specs.Calls.{Store}
-use Rattle.session_lines.specs.Bytes.{lineFeed, before, split, onFirst, linesOf}
-use Rattle.session_lines.specs.Requests.{requestOf}
+use Rattle.line_text.specs.Bytes.{lineFeed, before, split, onFirst, linesOf}
+use Rattle.line_text.specs.Requests.{requestOf}
+use Rattle.line_text.specs.Kept.{keptBytes}
 use Rattle.session_lines.specs.Listing.{listed}
-use Rattle.session_lines.specs.Progress.{keptBytes, lastLine, onto}
-use Rattle.session_lines.proofs.WordLaws.{append-none}
-use Rattle.session_lines.proofs.RequestLaws.{line-long}
+use Rattle.session_lines.specs.Progress.{lastLine, onto}
+use Rattle.line_text.proofs.WordLaws.{append-none}
+use Rattle.line_text.proofs.KeepLaws.{capped, request-capped}
 
 pub onto-none : (ls : List (List ℕ)) → onto [] ls ≡ ls
 onto-none [] = refl
@@ -49,7 +50,8 @@ lines-joined begun (b ∷ xs) rest h = go (eqb b lineFeed) h (lines-joined (begu
         ∙ ap (λ (u : List ℕ). onto u (linesOf rest)) (append-assoc begun (b ∷ []) xs)
 
 -- up to its line feed a line is whole
-pub lines-ended : (x rest : List ℕ) → before lineFeed x < length x → linesOf (take (suc (before lineFeed x)) x ++ rest) ≡ take (before lineFeed x) x ∷ linesOf rest
+pub lines-ended : (x rest : List ℕ) → before lineFeed x < length x
+    → linesOf (take (suc (before lineFeed x)) x ++ rest) ≡ take (before lineFeed x) x ∷ linesOf rest
 unfolding before split
 lines-ended [] rest h = absurd (never h)
   where
@@ -63,21 +65,6 @@ lines-ended (b ∷ xs) rest h = go (eqb b lineFeed) refl h (lines-ended xs rest)
         → linesOf (take (suc (cond t 0 (suc (before lineFeed xs)))) (b ∷ xs) ++ rest) ≡ take (cond t 0 (suc (before lineFeed xs))) (b ∷ xs) ∷ linesOf rest
     go true e l ih = rw e
     go false e l ih = rw (e, ih (omega arith))
-
--- a line's first 81 bytes tell what it asks for
-capped : (l z : List ℕ) → requestOf (l ++ z) ≡ requestOf (take keptBytes l ++ z)
-capped l z = go (leb (length l) keptBytes) refl
-  where
-    go : (t : Bool) → leb (length l) keptBytes ≡ t → requestOf (l ++ z) ≡ requestOf (take keptBytes l ++ z)
-    go true e = rw (take-all keptBytes l (leb-true (length l) keptBytes e))
-    go false e =
-        let long : keptBytes < length l = leb-false (length l) keptBytes e in
-        let kept : length (take keptBytes l) ≡ keptBytes = length-take-le keptBytes l (omega arith) in
-        sym (line-long (l ++ z) (omega (arith, length-append l z)))
-        ∙ line-long (take keptBytes l ++ z) (omega (arith, length-append (take keptBytes l) z))
-
-pub request-capped : (l : List ℕ) → requestOf l ≡ requestOf (take keptBytes l)
-request-capped l = ap requestOf (sym (append-none l)) ∙ capped l [] ∙ ap requestOf (append-none (take keptBytes l))
 
 pub listed-same : (n : ℕ) (s : Store) (a b : List ℕ) (ls : List (List ℕ)) → requestOf a ≡ requestOf b → listed n s (a ∷ ls) ≡ listed n s (b ∷ ls)
 unfolding listed

@@ -12,11 +12,12 @@ use Rattle.machine.specs.Questions.{firstNo, inRange, early, late, questions}
 use Rattle.machine.specs.Machine.{accepted, answered, machine}
 use Rattle.machine.specs.Promise.{Promise}
 use Rattle.soundness.proofs.Keeps.{Whole, machine-refused, machine-accepted, fresh-whole, decided, promise-whole}
-use Rattle.session_lines.specs.declared.Request
-use Rattle.session_lines.specs.declared.Request.{Request}
-use Rattle.session_lines.specs.declared.Verdict
-use Rattle.session_lines.specs.declared.Verdict.{Verdict}
-use Rattle.session_lines.specs.Listing.{verdictOf, Served, called, served}
+use Rattle.line_text.specs.declared.Request
+use Rattle.line_text.specs.declared.Request.{Request}
+use Rattle.line_text.specs.declared.Verdict
+use Rattle.line_text.specs.declared.Verdict.{Verdict}
+use Rattle.line_text.specs.Verdicts.{verdictOf}
+use Rattle.session_lines.specs.Listing.{Served, called, served}
 use Rattle.session_lines.specs.Serving.{Good, Serves}
 
 -- reply and store are the machine's, and the store is good again
@@ -44,7 +45,8 @@ module _ (s : Store) (h : capacity (s .table) ≡ 0) where
   unfolding firstNo early questions
   audit-refused = (rw (unmade-out (s .table) (s .queue) h), rw (unmade-out (s .table) (s .queue) h))
 
-  refused-good : (call : Call) (r : Reply) (s′ : Store) → Promise s call r s′ → (firstNo (early s call) ≡ 1) × (firstNo (questions s call) ≡ 1) → Exact s call r s′
+  refused-good : (call : Call) (r : Reply) (s′ : Store) → Promise s call r s′ → (firstNo (early s call) ≡ 1) × (firstNo (questions s call) ≡ 1)
+      → Exact s call r s′
   refused-good call r s′ p e =
       let a = p .asked 0 (e .0) in
       let m = machine-refused s call 0 (e .1) in
@@ -106,37 +108,39 @@ called-by : (s : Store) (call : Call) (r : Reply) (v : Verdict) (s′ : Store) �
 unfolding called
 called-by s call r v s′ er es ev = (ev ∙ ap verdictOf er, es)
 
-module _ (t : List ℕ) (q : Queue) (scratch : List ℕ) (t′ : List ℕ) (q′ q″ : Queue) (v : Verdict) (r : Reply) (eq : q″ ≡ q′) (ev : v ≡ verdictOf r) (g : Good t q) where
-  abbrev s : Store
-  s = store t q scratch
-
-  abbrev s′ : Store
-  s′ = store t′ q″ scratch
-
-  abbrev Done : Call → Type 0
-  Done call = (v ≡ called s call .verdict) × (s′ ≡ called s call .after) × Good t′ q″
-
-  from-lent : (call : Call) → machine s call ≡ beside t q scratch (machine (store t q []) call) → Promise (store t q []) call r (store t′ q′ []) → Done call
+-- what a caller makes of a reply: its verdict, beside the queue
+module _ {t : List ℕ} {q : Queue} {scratch t′ : List ℕ} {q′ q″ : Queue} {v : Verdict} {r : Reply}
+    (told : (v ≡ verdictOf r) × (q″ ≡ q′)) (g : Good t q) where
+  from-lent : (call : Call) → machine (store t q scratch) call ≡ beside t q scratch (machine (store t q []) call)
+      → Promise (store t q []) call r (store t′ q′ [])
+      → (v ≡ called (store t q scratch) call .verdict) × (store t′ q″ scratch ≡ called (store t q scratch) call .after) × Good t′ q″
   from-lent call b p =
       let e = exact (store t q []) call r (store t′ q′ []) p g in
-      let m = machine (store t q []) call in
-      let k = called-by s call r v s′ (e .reply ∙ sym (ap (λ (o : Outcome). o .reply) b))
-      (ap (λ (x : Queue). store t′ x scratch) eq ∙ ap (λ (x : Store). store (x .table) (x .queue) scratch) (e .after) ∙ sym (ap (λ (o : Outcome). o .after) b)) ev in
-      (k .0, k .1, rw eq (e .good))
+      let reply = e .reply ∙ sym (ap (λ (o : Outcome). o .reply) b) in
+      let after =
+      ap (λ (x : Queue). store t′ x scratch) (told .1)
+      ∙ ap (λ (x : Store). store (x .table) (x .queue) scratch) (e .after)
+      ∙ sym (ap (λ (o : Outcome). o .after) b) in
+      let k = called-by (store t q scratch) call r v (store t′ q″ scratch) reply after (told .0) in
+      (k .0, k .1, rw (told .1) (e .good))
 
-  pub fresh-serves : (c : ℕ) → Promise (store t q []) (fresh c) r (store t′ q′ []) → Serves s (Request.Fresh c) v s′
-  fresh-serves c p = let d = from-lent (fresh c) (fresh-beside t q scratch c) p in record { verdict = d .0; after = d .1; good = d .2 }
+  pub fresh-serves : {c : ℕ} → Promise (store t q []) (fresh c) r (store t′ q′ []) → Serves (store t q scratch) (Request.Fresh c) v (store t′ q″ scratch)
+  fresh-serves {c} p = let d = from-lent (fresh c) (fresh-beside t q scratch c) p in record { verdict = d .0; after = d .1; good = d .2 }
 
-  pub row-serves : (k : RowCall) (request : Request) → served s request ≡ called s (row k) → Promise (store t q []) (row k) r (store t′ q′ []) → Serves s request v s′
-  row-serves k request e p =
+  pub row-serves : {k : RowCall} (request : Request) → served (store t q scratch) request ≡ called (store t q scratch) (row k)
+      → Promise (store t q []) (row k) r (store t′ q′ [])
+      → Serves (store t q scratch) request v (store t′ q″ scratch)
+  row-serves {k} request e p =
       let d = from-lent (row k) (row-beside t q scratch k) p in
       record { verdict = rw e (d .0); after = rw e (d .1); good = d .2 }
 
-  pub step-serves : (scratch′ : List ℕ) → Promise s step r (store t′ q′ scratch′) → Serves s Request.Step v (store t′ q″ scratch′)
-  step-serves scratch′ p =
-      let e = exact s step r (store t′ q′ scratch′) p g in
-      let k = called-by s step r v (store t′ q″ scratch′) (e .reply) (ap (λ (x : Queue). store t′ x scratch′) eq ∙ e .after) ev in
-      record { verdict = k .0; after = k .1; good = rw eq (e .good) }
+  pub step-serves : {scratch′ : List ℕ} → Promise (store t q scratch) step r (store t′ q′ scratch′)
+      → Serves (store t q scratch) Request.Step v (store t′ q″ scratch′)
+  step-serves {scratch′} p =
+      let e = exact (store t q scratch) step r (store t′ q′ scratch′) p g in
+      let after = ap (λ (x : Queue). store t′ x scratch′) (told .1) ∙ e .after in
+      let k = called-by (store t q scratch) step r v (store t′ q″ scratch′) (e .reply) after (told .0) in
+      record { verdict = k .0; after = k .1; good = rw (told .1) (e .good) }
 
-pub bad-serves : (t : List ℕ) (q : Queue) (scratch : List ℕ) → Good t q → Serves (store t q scratch) Request.Bad Verdict.Bad (store t q scratch)
-bad-serves t q scratch g = record { verdict = refl; after = refl; good = g }
+pub bad-serves : {t : List ℕ} {q : Queue} {scratch : List ℕ} → Good t q → Serves (store t q scratch) Request.Bad Verdict.Bad (store t q scratch)
+bad-serves g = record { verdict = refl; after = refl; good = g }

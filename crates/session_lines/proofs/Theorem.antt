@@ -6,13 +6,13 @@ use Prim.Native.Nat.{ℕ, _+_, _^_, _<_}
 use native.Mathlib.Omega.{arith}
 use lib.ListN.{length, take}
 use Rattle.machine.specs.Table.{capacity}
-use Rattle.session_lines.specs.Bytes.{linesOf}
+use Rattle.line_text.specs.Bytes.{linesOf}
 use Rattle.session_lines.specs.Listing.{unmade, listed, listingWith, listing}
 use Rattle.machine.specs.Words.{mostCells}
 use Rattle.session_lines.specs.Serving.{Good}
 use Rattle.session_lines.specs.Progress.{ahead, Tells, Feeds, Finishes}
 use Rattle.session_lines.specs.Whole.{State, Part, Fed, lastState, inputs, outputs, begin, Whole}
-use Rattle.session_lines.proofs.WordLaws.{append-none}
+use Rattle.line_text.proofs.WordLaws.{append-none}
 use Rattle.session_lines.proofs.LineLaws.{onto-none}
 use Rattle.session_lines.proofs.TurnLaws.{tells-both, tells-none}
 

@@ -8,26 +8,28 @@ use lib.ListN.{length, take, drop, length-append}
 use lib.Seq.{take-all, take-add, length-take-le}
 use Rattle.machine.specs.declared.Queue.{Queue}
 use Rattle.machine.specs.Calls.{Store, store}
-use Rattle.session_lines.specs.declared.Request.{Request}
-use Rattle.session_lines.specs.declared.Verdict.{Verdict}
+use Rattle.line_text.specs.declared.Request.{Request}
+use Rattle.line_text.specs.declared.Verdict.{Verdict}
 use Rattle.session_lines.specs.declared.Session.{Session}
-use Rattle.session_lines.specs.Bytes.{lineFeed, before, linesOf}
-use Rattle.session_lines.specs.Requests.{requestOf}
-use Rattle.session_lines.specs.Texts.{outputLine}
+use Rattle.line_text.specs.Bytes.{lineFeed, before, linesOf}
+use Rattle.line_text.specs.Requests.{requestOf}
+use Rattle.line_text.specs.Kept.{keptBytes, Keeps}
+use Rattle.line_text.specs.Texts.{room, outputLine}
 use Rattle.session_lines.specs.Listing.{served, listed}
 use Rattle.session_lines.specs.Serving.{Good, Serves}
-use Rattle.session_lines.specs.Put.{Put}
-use Rattle.session_lines.specs.Progress.{keptBytes, onto, begunLine, ahead, Keeps, TellsLine, Lines, Tells, Turns}
-use Rattle.session_lines.proofs.PutLaws.{put-none, output-length}
-use Rattle.session_lines.proofs.LineLaws.{onto-none, lines-joined, lines-ended, request-capped, listed-same, listed-capped}
+use Rattle.line_text.specs.Put.{Put}
+use Rattle.session_lines.specs.Progress.{onto, begunLine, ahead, TellsLine, Lines, Tells, Turns}
+use Rattle.line_text.proofs.PutLaws.{output-length}
+use Rattle.line_text.proofs.KeepLaws.{request-capped}
+use Rattle.session_lines.proofs.LineLaws.{onto-none, lines-joined, lines-ended, listed-same, listed-capped}
 
-pub line-tells : (line : List ℕ) (lines : ℕ) (s : Store) (request : Request) (v : Verdict) (s′ : Store) (number : ℕ)
+pub line-tells : {line : List ℕ} {lines : ℕ} {s : Store} {request : Request} {v : Verdict} {s′ : Store} {number : ℕ}
     → request ≡ requestOf line
     → (Good (s .table) (s .queue) → Serves s request v s′)
     → (number ≤ lines + 1) × (lines + 1 < 2 ^ 64 → number ≡ lines + 1)
     → TellsLine line lines s (outputLine number v) number s′
 unfolding listed
-line-tells line lines s request v s′ number er h en = record {
+line-tells {lines = lines} er h en = record {
   good = λ g. h g .good;
   counted = en .0;
   listing = λ g b rest.
@@ -35,12 +37,12 @@ line-tells line lines s request v s′ number er h en = record {
       rw (e .verdict, e .after, er, en .1 b, add-one lines);
 }
 
-pub line-put : (line : List ℕ) (lines : ℕ) (s : Store) (out : List ℕ) (at number : ℕ) (v : Verdict) (s′ : Store) (end : ℕ) (new : List ℕ)
-    → at + 45 ≤ length out → length new ≡ length out
+pub line-put : {line : List ℕ} {lines : ℕ} {s : Store} {out : List ℕ} {at number : ℕ} {s′ : Store} {end : ℕ} {new : List ℕ} (v : Verdict)
+    → at + room ≤ length out → length new ≡ length out
     → Put out at (outputLine number v) new end
     → TellsLine line lines s (outputLine number v) number s′
     → Lines line lines s out at number s′ end new
-line-put line lines s out at number v s′ end new h l p t = record {
+line-put {number = number} v h l p t = record {
   within = omega (arith, p .ends, output-length number v);
   text = outputLine number v;
   put = p;
@@ -51,16 +53,17 @@ line-put line lines s out at number v s′ end new h l p t = record {
 abbrev session : List ℕ → ℕ → ℕ → Queue → Session
 session line held lines queue = record { line = line; held = held; lines = lines; queue = queue }
 
-module _ (s : Session) (t scratch input : List ℕ) (feed : ℕ) (new : List ℕ) (held : ℕ)
+module _ (s : Session) (input : List ℕ) {feed : ℕ} {new : List ℕ} {held : ℕ}
     (found : feed ≡ before lineFeed input) (most : feed ≤ length input) (size : length (s .line) ≡ keptBytes)
     (kept : Keeps (s .line) (s .held) (take feed input) new held) where
   front : take held new ≡ take keptBytes (begunLine s ++ take feed input)
   front = kept .front size
 
   -- without a line feed all joins the line
-  pub joined-tells : feed ≡ length input → Tells s t scratch (take feed input) [] (session new held (s .lines) (s .queue)) t scratch
+  pub joined-tells : {t scratch : List ℕ} → feed ≡ length input
+      → Tells s t scratch (take feed input) [] (session new held (s .lines) (s .queue)) t scratch
   unfolding ahead
-  joined-tells all = record {
+  joined-tells {t} {scratch} all = record {
     good = λ g. g;
     counted = omega arith;
     listing = λ g b rest.
@@ -74,11 +77,11 @@ module _ (s : Session) (t scratch input : List ℕ) (feed : ℕ) (new : List ℕ
   }
 
   -- with one the line is whole
-  pub ended-tells : (feed ≡ length input → ⊥) → (text : List ℕ) (lines : ℕ) (t′ : List ℕ) (queue : Queue) (scratch′ : List ℕ)
+  pub ended-tells : {t scratch text : List ℕ} {lines : ℕ} {t′ : List ℕ} {queue : Queue} {scratch′ : List ℕ} → (feed ≡ length input → ⊥)
       → TellsLine (take held new) (s .lines) (store t (s .queue) scratch) text lines (store t′ queue scratch′)
       → Tells s t scratch (take (feed + 1) input) text (session new 0 lines queue) t′ scratch′
   unfolding ahead
-  ended-tells some text lines t′ queue scratch′ told =
+  ended-tells {t} {scratch} {text} {lines} {t′} {queue} {scratch′} some told =
       let size : length (take (feed + 1) input) ≡ feed + 1 = length-take-le (feed + 1) input (omega arith) in
       record {
         good = told .good;

@@ -6,24 +6,16 @@ use Rattle.machine.specs.Words.{mostCells}
 use Rattle.machine.specs.Table.{tableLength}
 use Rattle.machine.specs.Queue.{emptyQueue}
 use Rattle.machine.specs.Calls.{Call, fresh, row, step, RowCall, car, cdr, cons, setLeft, setRight, up, down}
-use Rattle.machine.specs.Calls.{Reply, value, refused, idle, applied, sound, broken, Store, store}
+use Rattle.machine.specs.Calls.{Store, store}
 use Rattle.machine.specs.Machine.{machine}
-use Rattle.session_lines.specs.declared.Request
-use Rattle.session_lines.specs.declared.Request.{Request}
-use Rattle.session_lines.specs.declared.Verdict
-use Rattle.session_lines.specs.declared.Verdict.{Verdict}
-use Rattle.session_lines.specs.Bytes.{linesOf}
-use Rattle.session_lines.specs.Requests.{requestOf}
-use Rattle.session_lines.specs.Texts.{outputLine}
-
--- the value of a step is the cells freed; a session has no audits
-abbrev pub verdictOf : Reply → Verdict
-verdictOf (value v) = Verdict.Ok v
-verdictOf (refused n) = Verdict.No n
-verdictOf idle = Verdict.Idle
-verdictOf (applied kind freed) = Verdict.Ok freed
-verdictOf sound = Verdict.Ok 0
-verdictOf (broken n) = Verdict.No n
+use Rattle.line_text.specs.declared.Request
+use Rattle.line_text.specs.declared.Request.{Request}
+use Rattle.line_text.specs.declared.Verdict
+use Rattle.line_text.specs.declared.Verdict.{Verdict}
+use Rattle.line_text.specs.Bytes.{linesOf}
+use Rattle.line_text.specs.Requests.{requestOf}
+use Rattle.line_text.specs.Verdicts.{verdictOf}
+use Rattle.line_text.specs.Texts.{outputLine}
 
 -- a verdict, and the store afterwards
 pub record Served : Type 0 where

@@ -6,19 +6,13 @@ use lib.ListN.{length, take, replicate}
 use Rattle.machine.specs.declared.Queue.{Queue}
 use Rattle.machine.specs.Queue.{emptyQueue}
 use Rattle.machine.specs.Calls.{Store, store}
+use Rattle.line_text.specs.Bytes.{linesOf}
+use Rattle.line_text.specs.Kept.{keptBytes}
+use Rattle.line_text.specs.Texts.{room}
+use Rattle.line_text.specs.Put.{Put}
 use Rattle.session_lines.specs.declared.Session.{Session}
-use Rattle.session_lines.specs.Bytes.{linesOf}
 use Rattle.session_lines.specs.Listing.{listed}
 use Rattle.session_lines.specs.Serving.{Good}
-use Rattle.session_lines.specs.Put.{Put}
-
--- the bytes of a line that are kept: more than 80 tell that it is too long
-abbrev pub keptBytes : ℕ
-keptBytes = 81
-
--- the most bytes of an output line
-abbrev pub room : ℕ
-room = 45
 
 -- a last line without its line feed, if it has a byte
 abbrev pub lastLine : List ℕ → List (List ℕ)
@@ -40,12 +34,6 @@ begunLine s = take (s .held) (s .line)
 -- the output still to come when this is the rest of the input
 unfoldable pub ahead : Session → List ℕ → List ℕ → List ℕ → List ℕ
 ahead s t scratch rest = listed (s .lines) (store t (s .queue) scratch) (onto (begunLine s) (linesOf rest))
-
--- What is kept of a line is the front of all its bytes.
-pub record Keeps (line : List ℕ) (held : ℕ) (part new : List ℕ) (held′ : ℕ) : Type 0 where
-  pub most : held′ ≤ keptBytes
-  pub size : length new ≡ length line
-  pub front : length line ≡ keptBytes → take held′ new ≡ take keptBytes (take held line ++ part)
 
 -- A whole line after `lines` others gives the text, and the store afterwards is good; line numbers are below 2^64.
 pub record TellsLine (line : List ℕ) (lines : ℕ) (s : Store) (text : List ℕ) (lines′ : ℕ) (s′ : Store) : Type 0 where

@@ -7,8 +7,8 @@ use Rattle.machine.specs.declared.Queue.{Queue}
 use Rattle.machine.specs.Table.{capacity}
 use Rattle.machine.specs.Calls.{Store, store}
 use Rattle.soundness.proofs.Keeps.{Whole}
-use Rattle.session_lines.specs.declared.Request.{Request}
-use Rattle.session_lines.specs.declared.Verdict.{Verdict}
+use Rattle.line_text.specs.declared.Request.{Request}
+use Rattle.line_text.specs.declared.Verdict.{Verdict}
 use Rattle.session_lines.specs.Listing.{served}
 
 -- a store without an accepted fresh yet, or a sound one

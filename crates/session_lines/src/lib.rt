@@ -1,47 +1,20 @@
 // The session's lines: bytes in, bytes out. The definition of what comes out is specs/Listing.antt.
-mod bytes;
 mod line;
-mod parse;
 mod serve;
-mod texts;
 mod turn;
 
-use line::capped;
 use line::serve_line;
+use line_text::Verdict;
+use line_text::kept::KEPT_BYTES;
+use line_text::kept::capped;
+use line_text::texts::ROOM;
 use machine::Queue;
 use turn::turn;
 ghost use mathlib.Core.Path.{_≡_};
 ghost use Prim.Native.Nat.{_≤_};
 ghost use lib.ListN.{length};
+ghost use Rattle.line_text.specs.Texts.{room};
 ghost use Rattle.session_lines.specs.Progress.{started, Feeds, Finishes};
-
-// A line's call with its operands, or any other line.
-pub enum Request {
-    Fresh(u16),
-    Car(u16),
-    Cdr(u16),
-    Cons(u16, u16),
-    SetLeft(u16, u16),
-    SetRight(u16, u16),
-    Up(u16, u16),
-    Down(u16, u16),
-    Step,
-    Bad,
-}
-
-// What a word says as an operand.
-pub enum Operand {
-    Number(u16),
-    Nothing,
-}
-
-// What an output line says after its number.
-pub enum Verdict {
-    Ok(u16),
-    No(u16),
-    Idle,
-    Bad,
-}
 
 // A served request's verdict beside the queue.
 pub struct Answered {
@@ -49,9 +22,9 @@ pub struct Answered {
     pub queue: Queue,
 }
 
-// What is carried from one part of the input to the next: the first 81 bytes of the present line, the number of lines before it, and the queue.
+// What is carried from one part of the input to the next: the first bytes of the present line, the number of lines before it, and the queue.
 pub struct Session {
-    pub line: [u8; 81],
+    pub line: [u8; KEPT_BYTES],
     pub held: usize,
     pub lines: u64,
     pub queue: Queue,
@@ -62,7 +35,7 @@ impl Session {
         ensures { λ r. ⌜ r ≡ started ⌝ }
     {
         Session {
-            line: [0; 81],
+            line: [0; KEPT_BYTES],
             held: 0,
             lines: 0,
             queue: Queue::empty(),
@@ -105,7 +78,7 @@ pub fn feed(
     let mut taken = 0;
     let mut written = 0;
     while taken < input.len() {
-        if out.len() - written < texts::ROOM {
+        if out.len() - written < ROOM {
             return Fed {
                 session: present,
                 taken: taken,
@@ -127,7 +100,7 @@ pub fn feed(
 
 // At the end of the input a last line without its line feed is served. The answer is how much was written.
 pub fn finish(session: Session, table: &mut [u16], scratch: &mut [u16], out: &mut [u8]) -> usize
-    requires { ⌜ 45 ≤ length (now out) ⌝ }
+    requires { ⌜ room ≤ length (now out) ⌝ }
     ensures { λ r. ⌜ Finishes session (now (table .entry)) (now (scratch .entry)) r (now (out .exit)) ⌝ }
 {
     let held = capped(session.held);

@@ -1,65 +1,19 @@
 // A request served by the store.
 use crate::Answered;
-use crate::Request;
-use crate::Verdict;
 use calls::FreshReply;
 use calls::RowReply;
 use collector::Stepped;
-use machine::FreshAnswer;
+use line_text::Request;
+use line_text::Verdict;
+use line_text::verdicts::fresh_verdict;
+use line_text::verdicts::row_verdict;
+use line_text::verdicts::step_verdict;
 use machine::Queue;
-use machine::Refusal;
-use machine::RowAnswer;
-use machine::StepAnswer;
 ghost use mathlib.Core.Path.{_≡_};
 ghost use Rattle.machine.specs.Calls.{store};
-ghost use Rattle.machine.specs.Answers.{refusalNumber, rowReply, freshReply, stepReply};
-ghost use Rattle.session_lines.specs.Listing.{verdictOf};
+ghost use Rattle.machine.specs.Answers.{rowReply, freshReply, stepReply};
+ghost use Rattle.line_text.specs.Verdicts.{verdictOf};
 ghost use Rattle.session_lines.specs.Serving.{Good, Serves};
-
-fn number_of(refusal: Refusal) -> u16
-    ensures { λ r. ⌜ r ≡ refusalNumber refusal ⌝ }
-{
-    match refusal {
-        Refusal::StoreOutOfRange => 1,
-        Refusal::ScratchTooShort => 2,
-        Refusal::NumberOutOfRange => 3,
-        Refusal::IllegalWord => 4,
-        Refusal::NotACell => 5,
-        Refusal::NotHeld => 6,
-        Refusal::QueueFull => 7,
-        Refusal::NoFreeCell => 8,
-        Refusal::HeldCountTooHigh => 9,
-        Refusal::TooManyPointers => 10,
-    }
-}
-
-fn row_verdict(answer: RowAnswer) -> Verdict
-    ensures { λ r. ⌜ r ≡ verdictOf (rowReply answer) ⌝ }
-{
-    match answer {
-        RowAnswer::Done(w) => Verdict::Ok(w),
-        RowAnswer::Refused(refusal) => Verdict::No(number_of(refusal)),
-    }
-}
-
-fn fresh_verdict(answer: FreshAnswer) -> Verdict
-    ensures { λ r. ⌜ r ≡ verdictOf (freshReply answer) ⌝ }
-{
-    match answer {
-        FreshAnswer::Done => Verdict::Ok(0),
-        FreshAnswer::Refused(refusal) => Verdict::No(number_of(refusal)),
-    }
-}
-
-fn step_verdict(answer: StepAnswer) -> Verdict
-    ensures { λ r. ⌜ r ≡ verdictOf (stepReply answer) ⌝ }
-{
-    match answer {
-        StepAnswer::Idle => Verdict::Idle,
-        StepAnswer::Applied { kind: _, freed } => Verdict::Ok(freed),
-        StepAnswer::Refused(refusal) => Verdict::No(number_of(refusal)),
-    }
-}
 
 fn after_row(reply: RowReply) -> Answered
     ensures { λ r. ⌜ (r .verdict ≡ verdictOf (rowReply (reply .answer))) × (r .queue ≡ reply .queue) ⌝ }

@@ -1,11 +1,12 @@
 // One turn of a session.
 use crate::Session;
 use crate::Turned;
-use crate::bytes::find;
-use crate::line::keep;
 use crate::line::serve_line;
+use line_text::bytes::find;
+use line_text::kept::keep;
 ghost use Prim.Native.Nat.{_+_, _≤_};
 ghost use lib.ListN.{length};
+ghost use Rattle.line_text.specs.Texts.{room};
 ghost use Rattle.session_lines.specs.Progress.{Turns};
 
 // The input up to its first line feed joins the line, and with the line feed the line is served.
@@ -17,10 +18,10 @@ pub fn turn(
     out: &mut [u8],
     at: usize,
 ) -> Turned
-    requires { ⌜ at + 45 ≤ length (now out) ⌝ }
+    requires { ⌜ at + room ≤ length (now out) ⌝ }
     ensures { λ r. ⌜ Turns session (now (table .entry)) (now (scratch .entry)) (now (input .entry)) (now (out .entry)) at (r .session) (r .taken) (r .end) (now (table .exit)) (now (scratch .exit)) (now (out .exit)) ⌝ }
 {
-    let feed = find(input, 10);
+    let feed = find(input, b'\n');
     let mut line = session.line;
     let queue = session.queue;
     let held = keep(&mut line, session.held, &input[..feed]);

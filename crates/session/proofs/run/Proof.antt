@@ -6,7 +6,11 @@ use Rattle.session.proofs.run.Statement.{statement}
 use Rattle.session.proofs.run.Tie as tie
 
 abbrev Inv-loop : tie.InvT-loop
-Inv-loop table₀ scratch₀ input₀ out₀ present₀ reads₀ table scratch input out present reads = (length table ≡ length table₀) × (length scratch ≡ length scratch₀) × (length input ≡ length input₀) × (length out ≡ length out₀)
+Inv-loop table₀ scratch₀ input₀ out₀ present₀ reads₀ table scratch input out present reads =
+    (length table ≡ length table₀)
+    × (length scratch ≡ length scratch₀)
+    × (length input ≡ length input₀)
+    × (length out ≡ length out₀)
 
 abbrev μ-loop : tie.MeasureT-loop
 μ-loop table₀ scratch₀ input₀ out₀ present₀ reads₀ table scratch input out present reads = reads
@@ -27,31 +31,51 @@ loop-less : tie.Need-loop-less Inv-loop μ-loop
 loop-less c = search needs
 
 loop-again : tie.Need-loop-again Inv-loop μ-loop
-loop-again c = (c .before .before .before .before .before .before .before .before .before .before .read-part .kept .1 .0 ∙ c .before .before .before .before .before .before .before .before .before .before .before .before .before .before .before .before .loop .inv .0, c .before .before .before .before .before .before .before .before .before .before .read-part .kept .1 .1 .0 ∙ c .before .before .before .before .before .before .before .before .before .before .before .before .before .before .before .before .loop .inv .1, c .before .before .before .before .before .before .before .before .before .before .read-part .kept .1 .1 .1 .0 ∙ c .before .before .before .before .before .before .before .before .before .before .before .before .before .before .before .before .loop .inv .2, c .before .before .before .before .before .before .before .before .before .before .read-part .kept .1 .1 .1 .1 .0 ∙ c .before .before .before .before .before .before .before .before .before .before .before .before .before .before .before .before .loop .inv .3)
+loop-again c =
+    let at-read-part = c .before .before .before .before .before .before .before .before .before .before in
+    let at-loop = at-read-part .before .before .before .before .before .before in
+    let kept = at-read-part .read-part .kept in
+    let inv = at-loop .loop .inv in
+    (kept .1 .0 ∙ inv .0, kept .1 .1 .0 ∙ inv .1, kept .1 .1 .1 .0 ∙ inv .2, kept .1 .1 .1 .1 .0 ∙ inv .3)
 
 finish-requires : tie.Need-finish-requires Inv-loop μ-loop
 finish-requires c κs = search needs
 
 slice-reshare-prefix-write-all : tie.Need-slice-reshare-prefix-write-all Inv-loop μ-loop
-slice-reshare-prefix-write-all c = c .before .before .before .before .before .before .finish .ensures .within
+slice-reshare-prefix-write-all c =
+    let at-finish = c .before .before .before .before .before .before in
+    at-finish .finish .ensures .within
 
 slice-aggregate-write-all : tie.Need-slice-aggregate-write-all Inv-loop μ-loop
-slice-aggregate-write-all c = sym (length-take-le _ _ (c .before .before .before .before .before .before .before .finish .ensures .within))
+slice-aggregate-write-all c =
+    let at-finish = c .before .before .before .before .before .before .before in
+    sym (length-take-le _ _ (at-finish .finish .ensures .within))
 
 write-all-requires : tie.Need-write-all-requires Inv-loop μ-loop
 write-all-requires c κs = search needs
 
 same-length : tie.Need-same-length Inv-loop μ-loop
-same-length c = c .before .before .before .before .before .before .before .before .finish .kept .1 .0 ∙ c .before .before .before .before .before .before .before .before .before .before .before .before .before .loop .inv .0
+same-length c =
+    let at-finish = c .before .before .before .before .before .before .before .before in
+    let at-loop = at-finish .before .before .before .before .before in
+    at-finish .finish .kept .1 .0 ∙ at-loop .loop .inv .0
 
 same-length-2 : tie.Need-same-length-2 Inv-loop μ-loop
-same-length-2 c = c .before .before .before .before .before .before .before .before .finish .kept .1 .1 .0 ∙ c .before .before .before .before .before .before .before .before .before .before .before .before .before .loop .inv .1
+same-length-2 c =
+    let at-finish = c .before .before .before .before .before .before .before .before in
+    let at-loop = at-finish .before .before .before .before .before in
+    at-finish .finish .kept .1 .1 .0 ∙ at-loop .loop .inv .1
 
 same-length-3 : tie.Need-same-length-3 Inv-loop μ-loop
-same-length-3 c = c .before .before .before .before .before .before .before .before .before .before .before .before .before .loop .inv .2
+same-length-3 c =
+    let at-loop = c .before .before .before .before .before .before .before .before .before .before .before .before .before in
+    at-loop .loop .inv .2
 
 same-length-4 : tie.Need-same-length-4 Inv-loop μ-loop
-same-length-4 c = c .before .before .before .before .before .before .before .before .finish .kept .1 .1 .1 .0 ∙ c .before .before .before .before .before .before .before .before .before .before .before .before .before .loop .inv .3
+same-length-4 c =
+    let at-finish = c .before .before .before .before .before .before .before .before in
+    let at-loop = at-finish .before .before .before .before .before in
+    at-finish .finish .kept .1 .1 .1 .0 ∙ at-loop .loop .inv .3
 
 returns : tie.Need-returns Inv-loop μ-loop
 returns c = search needs

@@ -25,7 +25,14 @@ same-length-3 : tie.Need-same-length-3
 same-length-3 c = search needs
 
 returns : tie.Need-returns
-returns c = line-put _ _ _ _ _ _ _ _ _ _ (c .before .before .before .before .before .before .before .before .before .before .before .before .before .before .before .before .before .before .pre) (c .before .before .put-line .kept .0) (c .before .before .put-line .ensures) (line-tells _ _ _ _ _ _ _ (c .before .before .before .before .before .before .before .before .before .before .before .before .before .parse .ensures) (c .before .before .before .before .before .before .before .before .before .before .serve .ensures) (c .before .before .before .before .next-number .ensures))
+returns c =
+    let at-put-line = c .before .before in
+    let at-next-number = at-put-line .before .before in
+    let at-serve = at-next-number .before .before .before .before .before .before in
+    let at-parse = at-serve .before .before .before in
+    let start = at-parse .before .before .before .before .before in
+    let told = line-tells (at-parse .parse .ensures) (at-serve .serve .ensures) (at-next-number .next-number .ensures) in
+    line-put (at-serve .serve .result .verdict) (start .pre) (at-put-line .put-line .kept .0) (at-put-line .put-line .ensures) told
 
 pub serve-line-spec : {M : Type 1} → statement M
 serve-line-spec =

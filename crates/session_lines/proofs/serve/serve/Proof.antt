@@ -1,6 +1,5 @@
 use mathlib.Core.Path.{refl}
 use borrow.Author.Needs.{needs}
-use Rattle.machine.specs.Calls.{car, cdr, cons, setLeft, setRight, up, down}
 use Rattle.session_lines.proofs.ServeLaws.{fresh-serves, row-serves, step-serves, bad-serves}
 use Rattle.session_lines.proofs.serve.serve.Statement.{statement}
 use Rattle.session_lines.proofs.serve.serve.Tie as tie
@@ -93,49 +92,73 @@ same-length : tie.Need-same-length
 same-length c = search needs
 
 returns : tie.Need-returns
-returns c = λ g. rw (c .before .before .before .before .before .before .request .given .1) (fresh-serves _ _ _ _ _ _ _ _ (c .after-fresh .ensures .1) (c .after-fresh .ensures .0) g _ (c .before .before .before .fresh .ensures))
+returns c =
+    let request = c .before .before .before .before .before .before .request .given .1 in
+    let promise = c .before .before .before .fresh .ensures in
+    λ g. rw request (fresh-serves (c .after-fresh .ensures) g promise)
 
 same-length-2 : tie.Need-same-length-2
 same-length-2 c = search needs
 
 returns-2 : tie.Need-returns-2
-returns-2 c = λ g. rw (c .before .before .before .before .request2 .given .1) (row-serves _ _ _ _ _ _ _ _ (c .after-row .ensures .1) (c .after-row .ensures .0) g (car _) _ refl (c .before .car .ensures))
+returns-2 c =
+    let request = c .before .before .before .before .request2 .given .1 in
+    let promise = c .before .car .ensures in
+    λ g. rw request (row-serves (c .after-row .ensures) g _ refl promise)
 
 same-length-3 : tie.Need-same-length-3
 same-length-3 c = search needs
 
 returns-3 : tie.Need-returns-3
-returns-3 c = λ g. rw (c .before .before .before .before .request3 .given .1) (row-serves _ _ _ _ _ _ _ _ (c .after-row2 .ensures .1) (c .after-row2 .ensures .0) g (cdr _) _ refl (c .before .cdr .ensures))
+returns-3 c =
+    let request = c .before .before .before .before .request3 .given .1 in
+    let promise = c .before .cdr .ensures in
+    λ g. rw request (row-serves (c .after-row2 .ensures) g _ refl promise)
 
 same-length-4 : tie.Need-same-length-4
 same-length-4 c = search needs
 
 returns-4 : tie.Need-returns-4
-returns-4 c = λ g. rw (c .before .before .before .before .before .before .request4 .given .1) (row-serves _ _ _ _ _ _ _ _ (c .after-row3 .ensures .1) (c .after-row3 .ensures .0) g (cons _ _) _ refl (c .before .before .before .cons .ensures))
+returns-4 c =
+    let request = c .before .before .before .before .before .before .request4 .given .1 in
+    let promise = c .before .before .before .cons .ensures in
+    λ g. rw request (row-serves (c .after-row3 .ensures) g _ refl promise)
 
 same-length-5 : tie.Need-same-length-5
 same-length-5 c = search needs
 
 returns-5 : tie.Need-returns-5
-returns-5 c = λ g. rw (c .before .before .before .before .before .before .request5 .given .1) (row-serves _ _ _ _ _ _ _ _ (c .after-row4 .ensures .1) (c .after-row4 .ensures .0) g (setLeft _ _) _ refl (c .before .before .before .set-left .ensures))
+returns-5 c =
+    let request = c .before .before .before .before .before .before .request5 .given .1 in
+    let promise = c .before .before .before .set-left .ensures in
+    λ g. rw request (row-serves (c .after-row4 .ensures) g _ refl promise)
 
 same-length-6 : tie.Need-same-length-6
 same-length-6 c = search needs
 
 returns-6 : tie.Need-returns-6
-returns-6 c = λ g. rw (c .before .before .before .before .before .before .request6 .given .1) (row-serves _ _ _ _ _ _ _ _ (c .after-row5 .ensures .1) (c .after-row5 .ensures .0) g (setRight _ _) _ refl (c .before .before .before .set-right .ensures))
+returns-6 c =
+    let request = c .before .before .before .before .before .before .request6 .given .1 in
+    let promise = c .before .before .before .set-right .ensures in
+    λ g. rw request (row-serves (c .after-row5 .ensures) g _ refl promise)
 
 same-length-7 : tie.Need-same-length-7
 same-length-7 c = search needs
 
 returns-7 : tie.Need-returns-7
-returns-7 c = λ g. rw (c .before .before .before .before .request7 .given .1) (row-serves _ _ _ _ _ _ _ _ (c .after-row6 .ensures .1) (c .after-row6 .ensures .0) g (up _ _) _ refl (c .before .up .ensures))
+returns-7 c =
+    let request = c .before .before .before .before .request7 .given .1 in
+    let promise = c .before .up .ensures in
+    λ g. rw request (row-serves (c .after-row6 .ensures) g _ refl promise)
 
 same-length-8 : tie.Need-same-length-8
 same-length-8 c = search needs
 
 returns-8 : tie.Need-returns-8
-returns-8 c = λ g. rw (c .before .before .before .before .request8 .given .1) (row-serves _ _ _ _ _ _ _ _ (c .after-row7 .ensures .1) (c .after-row7 .ensures .0) g (down _ _) _ refl (c .before .down .ensures))
+returns-8 c =
+    let request = c .before .before .before .before .request8 .given .1 in
+    let promise = c .before .down .ensures in
+    λ g. rw request (row-serves (c .after-row7 .ensures) g _ refl promise)
 
 same-length-9 : tie.Need-same-length-9
 same-length-9 c = search needs
@@ -144,10 +167,13 @@ same-length-10 : tie.Need-same-length-10
 same-length-10 c = search needs
 
 returns-9 : tie.Need-returns-9
-returns-9 c = λ g. rw (c .before .before .before .before .before .before .before .before .enum-told .given .1) (step-serves _ _ _ _ _ _ _ _ (c .after-step .ensures .1) (c .after-step .ensures .0) g _ (c .before .before .before .before .before .step .ensures))
+returns-9 c =
+    let request = c .before .before .before .before .before .before .before .before .enum-told .given .1 in
+    let promise = c .before .before .before .before .before .step .ensures in
+    λ g. rw request (step-serves (c .after-step .ensures) g promise)
 
 returns-10 : tie.Need-returns-10
-returns-10 c = λ g. rw (c .enum-told2 .given .1) (bad-serves _ _ _ g)
+returns-10 c = λ g. rw (c .enum-told2 .given .1) (bad-serves g)
 
 pub serve-spec : {M : Type 1} → statement M
 serve-spec =

@@ -1,0 +1,89 @@
+-- Sameness of bytes, search and numbers by place, as loops go.
+use mathlib.Core.Path.{_≡_, refl, sym, ap, _∙_}
+use mathlib.Core.Bool.{Bool, true, false, cond, _&&_}
+use mathlib.Core.List.{List, [], _∷_}
+use Prim.Native.Nat.{ℕ, zero, suc, _+_, _-_, _*_, _≤_, _<_}
+use native.Mathlib.Numerals.{add-one}
+use native.Mathlib.Omega.{arith}
+use lib.Dec.{leb, eqb}
+use lib.ListN.{length, getD, drop, drop-of-length-le}
+use lib.Seq.{drop-cons}
+use borrow.Author.Tests.{eq-eqb, ne-eqb, le-leb, lt-leb}
+use Rattle.line_text.specs.declared.Operand
+use Rattle.line_text.specs.declared.Operand.{Operand}
+use Rattle.line_text.specs.Bytes.{digitZero, digitNine, sameBytes, before}
+use Rattle.line_text.specs.Requests.{mostOperand, isDigit, numberFrom}
+
+pub drop-at : (s : List ℕ) (i : ℕ) → i < length s → drop i s ≡ getD s i 0 ∷ drop (i + 1) s
+drop-at s i h = rw (add-one i) (drop-cons s i 0 h)
+
+pub same-cons : (x y : ℕ) (u v : List ℕ) → x ≡ y → sameBytes (x ∷ u) (y ∷ v) ≡ sameBytes u v
+unfolding sameBytes
+same-cons x y u v h = rw (eq-eqb x y h)
+
+pub same-cons-other : (x y : ℕ) (u v : List ℕ) → (x ≡ y → ⊥) → sameBytes (x ∷ u) (y ∷ v) ≡ false
+unfolding sameBytes
+same-cons-other x y u v h = rw (ne-eqb x y h)
+
+pub same-lengths : (u v : List ℕ) → (length u ≡ length v → ⊥) → sameBytes u v ≡ false
+unfolding sameBytes
+same-lengths [] [] h = absurd (h refl)
+same-lengths [] (y ∷ v) h = refl
+same-lengths (x ∷ u) [] h = refl
+same-lengths (x ∷ u) (y ∷ v) h = rw (same-lengths u v (λ e. h (ap suc e))) (and-false (eqb x y))
+  where
+    and-false : (b : Bool) → (b && false) ≡ false
+    and-false true = refl
+    and-false false = refl
+
+module _ (a b : List ℕ) (i : ℕ) where
+  pub same-step : i < length a → i < length b → getD a i 0 ≡ getD b i 0 → sameBytes (drop i a) (drop i b) ≡ sameBytes (drop (i + 1) a) (drop (i + 1) b)
+  same-step ha hb e = rw (drop-at a i ha, drop-at b i hb) (same-cons _ _ _ _ e)
+
+  pub same-differ : i < length a → i < length b → (getD a i 0 ≡ getD b i 0 → ⊥) → sameBytes (drop i a) (drop i b) ≡ false
+  same-differ ha hb e = rw (drop-at a i ha, drop-at b i hb) (same-cons-other _ _ _ _ e)
+
+  pub same-end : length a ≤ i → length b ≤ i → sameBytes (drop i a) (drop i b) ≡ true
+  unfolding sameBytes
+  same-end ha hb = rw (drop-of-length-le a ha, drop-of-length-le b hb)
+
+module _ (b : ℕ) (s : List ℕ) (i : ℕ) where
+  pub before-step : i < length s → (getD s i 0 ≡ b → ⊥) → i + before b (drop i s) ≡ i + 1 + before b (drop (i + 1) s)
+  unfolding before
+  before-step h e = rw (drop-at s i h, ne-eqb (getD s i 0) b e) (omega arith)
+
+  pub before-found : i < length s → getD s i 0 ≡ b → i + before b (drop i s) ≡ i
+  unfolding before
+  before-found h e = rw (drop-at s i h, eq-eqb (getD s i 0) b e) (omega arith)
+
+  pub before-end : length s ≤ i → i + before b (drop i s) ≡ i
+  unfolding before
+  before-end h = rw (drop-of-length-le s h) (omega arith)
+
+-- a number that is too large stays so
+pub number-large : (v : ℕ) (s : List ℕ) → mostOperand < v → numberFrom v s ≡ Operand.Nothing
+unfolding numberFrom
+number-large v [] h = rw (lt-leb v mostOperand h)
+number-large v (d ∷ ds) h = rw (number-large (10 * v + (d - digitZero)) ds (omega arith)) (either (isDigit d))
+  where
+    either : (b : Bool) → cond b Operand.Nothing Operand.Nothing ≡ Operand.Nothing
+    either true = refl
+    either false = refl
+
+module _ (v : ℕ) (s : List ℕ) (i : ℕ) where
+  pub number-step : i < length s → digitZero ≤ getD s i 0 → getD s i 0 ≤ digitNine
+      → numberFrom v (drop i s) ≡ numberFrom (10 * v + (getD s i 0 - digitZero)) (drop (i + 1) s)
+  unfolding numberFrom
+  number-step h low high = rw (drop-at s i h, le-leb digitZero (getD s i 0) low, le-leb (getD s i 0) digitNine high)
+
+  pub number-below : i < length s → getD s i 0 < digitZero → numberFrom v (drop i s) ≡ Operand.Nothing
+  unfolding numberFrom
+  number-below h low = rw (drop-at s i h, lt-leb digitZero (getD s i 0) low)
+
+  pub number-above : i < length s → digitZero ≤ getD s i 0 → digitNine < getD s i 0 → numberFrom v (drop i s) ≡ Operand.Nothing
+  unfolding numberFrom
+  number-above h low high = rw (drop-at s i h, le-leb digitZero (getD s i 0) low, lt-leb (getD s i 0) digitNine high)
+
+  pub number-end : length s ≤ i → v ≤ mostOperand → numberFrom v (drop i s) ≡ Operand.Number v
+  unfolding numberFrom
+  number-end h low = rw (drop-of-length-le s h, le-leb v mostOperand low)

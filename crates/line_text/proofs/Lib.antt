@@ -1,0 +1,5 @@
+pub mod ByteLaws
+pub mod PutLaws
+pub mod WordLaws
+pub mod RequestLaws
+pub mod KeepLaws

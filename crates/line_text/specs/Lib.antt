@@ -1,0 +1,7 @@
+-- Lines of input and output as bytes.
+pub mod Bytes
+pub mod Requests
+pub mod Kept
+pub mod Verdicts
+pub mod Texts
+pub mod Put

@@ -1,0 +1,88 @@
+// Output lines, written into a lent buffer from a place on.
+use crate::Verdict;
+ghost use mathlib.Core.Path.{_≡_};
+ghost use mathlib.Core.List.{_++_};
+ghost use Prim.Native.Nat.{_+_, _^_, _≤_, _<_};
+ghost use lib.ListN.{length};
+ghost use Rattle.line_text.specs.Texts.{digits, mostDigits, decimal, wordLength, verdictRoom, verdictText, room, outputLine};
+ghost use Rattle.line_text.specs.Put.{Put};
+
+// No number here has more digits.
+const MOST_DIGITS: usize = 20;
+
+// OK or NO and a space, before a number.
+const WORD_LENGTH: usize = 3;
+
+const VERDICT_ROOM: usize = WORD_LENGTH + MOST_DIGITS;
+
+// The most bytes of an output line: a number, a space, a verdict, a line feed.
+pub const ROOM: usize = MOST_DIGITS + 1 + VERDICT_ROOM + 1;
+
+// A number in base ten, of at most so many digits.
+fn put_digits(out: &mut [u8], at: usize, most: usize, n: u64) -> usize
+    requires { ⌜ at + most ≤ length (now out) ⌝ }
+    ensures { λ r. ⌜ Put (now (out .entry)) at (digits most n) (now (out .exit)) r ⌝ }
+{
+    if most == 0 {
+        return at;
+    }
+    if n < 10 {
+        out[at] = b'0' + (n as u8);
+        return at + 1;
+    }
+    let end = put_digits(out, at, most - 1, n / 10);
+    out[end] = b'0' + ((n % 10) as u8);
+    end + 1
+}
+
+fn put_word(out: &mut [u8], at: usize, word: &[u8]) -> usize
+    requires { ⌜ at + length (now word) ≤ length (now out) ⌝ }
+    ensures { λ r. ⌜ Put (now (out .entry)) at (now (word .entry)) (now (out .exit)) r ⌝ }
+{
+    let mut i = 0;
+    while i < word.len() {
+        out[at + i] = word[i];
+        i += 1;
+    }
+    at + i
+}
+
+fn put_counted(out: &mut [u8], at: usize, word: &[u8], n: u16) -> usize
+    requires { ⌜ (length (now word) ≡ wordLength) × (at + verdictRoom ≤ length (now out)) ⌝ }
+    ensures { λ r. ⌜ Put (now (out .entry)) at (now (word .entry) ++ decimal n) (now (out .exit)) r ⌝ }
+{
+    let end = put_word(out, at, word);
+    put_digits(out, end, MOST_DIGITS, n as u64)
+}
+
+fn put_verdict(out: &mut [u8], at: usize, verdict: Verdict) -> usize
+    requires { ⌜ at + verdictRoom ≤ length (now out) ⌝ }
+    ensures { λ r. ⌜ Put (now (out .entry)) at (verdictText verdict) (now (out .exit)) r ⌝ }
+{
+    match verdict {
+        Verdict::Ok(v) => put_counted(out, at, b"OK ", v),
+        Verdict::No(n) => put_counted(out, at, b"NO ", n),
+        Verdict::Idle => put_word(out, at, b"IDLE"),
+        Verdict::Bad => put_word(out, at, b"BAD"),
+    }
+}
+
+pub fn put_line(out: &mut [u8], at: usize, number: u64, verdict: Verdict) -> usize
+    requires { ⌜ at + room ≤ length (now out) ⌝ }
+    ensures { λ r. ⌜ Put (now (out .entry)) at (outputLine number verdict) (now (out .exit)) r ⌝ }
+{
+    let numbered = put_digits(out, at, MOST_DIGITS, number);
+    let spaced = put_word(out, numbered, b" ");
+    let told = put_verdict(out, spaced, verdict);
+    put_word(out, told, b"\n")
+}
+
+// No input has so many lines that the number stops.
+pub fn next_number(lines: u64) -> u64
+    ensures { λ r. ⌜ (r ≤ lines + 1) × (lines + 1 < 2 ^ 64 → r ≡ lines + 1) ⌝ }
+{
+    if lines < u64::MAX {
+        return lines + 1;
+    }
+    lines
+}
