@@ -113,7 +113,7 @@ chain-same t u is c first last states words h = record {
   linked = rw first (linked-same t u c (firstFree t) is (h .linked) (λ i l m. words i left l (omega arith) (free-not-in-use t i (chain-free t is h i l m))));
   ends = h .ends ∙ sym last;
   once = rw c (λ (i : ℕ) (l : i < capacity t). h .once i l ∙ ap (λ (b : Bool). cond b 1 0) (sym (free-same t u i (states i l))));
-  wiped = rw c (λ (i k : ℕ) (l : i < capacity t) (e : isFree u i ≡ true) (low : right ≤ k) (high : k ≤ state).
+  wiped = rw c (λ (i k : ℕ) (l : i < capacity t) (e : isFree u i ≡ true) (low : right ≤ k) (high : k < stride).
       let g : isFree t i ≡ true = sym (free-same t u i (states i l)) ∙ e in
       words i k l (omega arith) (free-not-in-use t i g) ∙ h .wiped i k l g low high);
 }

@@ -15,10 +15,12 @@ use Rattle.machine.specs.Questions.{firstNo, askFree, questions}
 use Rattle.machine.specs.Machine.{accepted}
 use Rattle.machine.proofs.Table.{word-other}
 use Rattle.machine.proofs.Ring.{arrays-appended, arrays-taken, waiting-appended}
-use Rattle.machine.proofs.Kept.{kept}
+use Rattle.machine.proofs.Kept.{machine-accepted, kept}
 use Rattle.machine.proofs.Replay.{replays-uses}
 use Rattle.soundness.specs.Demand3.{Holds, holds, gains, gives, NoneOwed, RootsAreHolds}
-use Rattle.soundness.proofs.ByKind.{moves, waiting-cons, waiting-snoc}
+use Rattle.soundness.specs.Whole.{Whole}
+use Rattle.machine.proofs.Lists.{waiting-snoc}
+use Rattle.soundness.proofs.ByKind.{moves, waiting-cons}
 use Rattle.soundness.proofs.Facts.{Facts, slots-of, sound-facts}
 use Rattle.soundness.proofs.SlotsKept.{waiting-empty}
 use Rattle.soundness.proofs.FreshSound.{fresh-roots}
@@ -29,7 +31,7 @@ use Rattle.soundness.proofs.RowSound.{row-sound}
 use Rattle.soundness.proofs.Taking.{taking-capacity, taking-root, taking-facts}
 use Rattle.soundness.proofs.Sweeping.{swept-capacity, swept-root}
 use Rattle.soundness.proofs.StepSound.{stepTable, waiting-rest, step-sound}
-use Rattle.soundness.proofs.Keeps.{Whole, fresh-yes, fresh-whole, machine-accepted}
+use Rattle.soundness.proofs.Keeps.{fresh-yes, fresh-whole}
 
 -- a call gives up no more holds than question 6 asks for
 gives-uses : (t : List ℕ) (r : RowCall) (x : ℕ) → gives r x ≤ uses (packetOf t r) x

@@ -6,11 +6,11 @@ use mathlib.Core.List.{List, [], _∷_, _++_, map}
 use Prim.Native.Nat.{ℕ, zero, suc, pred, _+_, _≤_, _<_}
 use native.Mathlib.Omega.{arith}
 use lib.Dec.{eqb, ltb, eqb·suc-zero}
-use lib.ListN.{length}
+use lib.ListN.{length, getD}
 use borrow.Author.Tests.{eqb-true, eqb-false, eq-eqb, lt-ltb}
 use Rattle.machine.specs.Range.{matching, occurrences, lastOf}
 use Rattle.machine.specs.Words.{isLegal}
-use Rattle.machine.specs.Table.{stride, left, right, rootCount, cellCount, state, capacity, firstFree, lastFree, tableLength, wordAt, putEnds, putCell, inUse, isFree}
+use Rattle.machine.specs.Table.{stride, left, right, rootCount, cellCount, state, capacity, firstFree, lastFree, newCell, wordAt, putEnds, putCell, inUse, isFree}
 use Rattle.machine.specs.Queue.{Packet, packet}
 use Rattle.machine.specs.Packets.{kindOf, namesOf, names, usesOf, uses, isNamed}
 use Rattle.machine.specs.Reached.{isRoot, pointsTo, begun, Reached}
@@ -18,7 +18,7 @@ use Rattle.machine.specs.Audit.{replays, wordsOfKind, packetLegal}
 use Rattle.machine.specs.Facts.{Linked, Chain}
 use Rattle.machine.proofs.Range.{tested, or-left, and-both, not-both, matching-same, matching-other}
 use Rattle.machine.proofs.Words.{place-cell}
-use Rattle.machine.proofs.Table.{Inside, room, cell-left, cell-right, cell-root, cell-cell, cell-state, cell-other, word-putEnds, length-putEnds, length-putCell, capacity-putEnds, capacity-putCell, firstFree-putEnds, firstFree-putCell, lastFree-putEnds, lastFree-putCell, free-not-in-use, not-in-use-free}
+use Rattle.machine.proofs.Table.{Inside, room, cell-word, cell-other, word-putEnds, length-putEnds, length-putCell, capacity-putEnds, capacity-putCell, firstFree-putEnds, firstFree-putCell, lastFree-putEnds, lastFree-putCell, free-not-in-use, not-in-use-free}
 use Rattle.soundness.proofs.Views.{shown, Same, putView, put-same, put-other}
 use Rattle.soundness.proofs.Fits.{Fit, fit-grows, LegalPacket}
 use Rattle.soundness.proofs.Undoing.{shown-used, shown-free}
@@ -35,7 +35,7 @@ occurrences-head i is j = refl
 
 -- the place new leaves the head of the chain and becomes a cell of x and y
 abbrev pub withCell : List ℕ → ℕ → ℕ → ℕ → List ℕ
-withCell t new x y = putCell (putEnds t (wordAt t new left) (cond (eqb (wordAt t new left) 0) 0 (lastFree t))) new x y 1 0 1
+withCell t new x y = putCell (putEnds t (wordAt t new left) (cond (eqb (wordAt t new left) 0) 0 (lastFree t))) new (newCell x y)
 
 module _ (t : List ℕ) (ps : List Packet) (f : Facts t ps) (new : ℕ) (rest : List ℕ) (chain : Chain t (new ∷ rest)) (x y : ℕ) where
   abbrev next : ℕ
@@ -63,20 +63,23 @@ module _ (t : List ℕ) (ps : List Packet) (f : Facts t ps) (new : ℕ) (rest : 
   long = let r = f .room in omega arith
 
   same-capacity : capacity u ≡ capacity t
-  same-capacity = capacity-putCell ended new x y 1 0 1 ∙ capacity-putEnds t next last
+  same-capacity = capacity-putCell ended new (newCell x y) refl ∙ capacity-putEnds t next last
 
   -- the new cell's words, and the others'
+  new-word : (k : ℕ) → k < stride → wordAt u new k ≡ getD (newCell x y) k 0
+  new-word k l = cell-word ended new (newCell x y) refl inside k l
+
   new-left : wordAt u new left ≡ x
-  new-left = cell-left ended new x y 1 0 1 inside
+  new-left = new-word left (omega arith)
 
   new-right : wordAt u new right ≡ y
-  new-right = cell-right ended new x y 1 0 1 inside
+  new-right = new-word right (omega arith)
 
   new-root : wordAt u new rootCount ≡ 1
-  new-root = cell-root ended new x y 1 0 1 inside
+  new-root = new-word rootCount (omega arith)
 
   other : (i k : ℕ) → k < stride → i ≢ new → wordAt u i k ≡ wordAt t i k
-  other i k l d = cell-other ended new x y 1 0 1 i k l (λ e. d (sym e)) ∙ word-putEnds t next last i k
+  other i k l d = cell-other ended new (newCell x y) refl i k l (λ e. d (sym e)) ∙ word-putEnds t next last i k
 
   is-new : (i : ℕ) → (i ≡ new) ⊎ (i ≢ new)
   is-new i = ⊎-elim (λ e. inl (eqb-true i new e)) (λ e. inr (eqb-false i new e)) (tested (eqb i new))
@@ -91,7 +94,7 @@ module _ (t : List ℕ) (ps : List Packet) (f : Facts t ps) (new : ℕ) (rest : 
 
   new-used : inUse u new ≡ true
   unfolding inUse
-  new-used = lt-ltb 0 (wordAt u new state) (omega (arith, cell-state ended new x y 1 0 1 inside))
+  new-used = lt-ltb 0 (wordAt u new state) (omega (arith, new-word state (omega arith)))
 
   -- the new cell has the root count 1, and no other root count changes
   pub making-root : (i : ℕ) → i < capacity t → wordAt u i rootCount ≡ wordAt t i rootCount + matching (suc new) (suc i) 1
@@ -117,10 +120,10 @@ module _ (t : List ℕ) (ps : List Packet) (f : Facts t ps) (new : ℕ) (rest : 
       omega (arith, matching-same new new 1 refl, rw (not-in-use-free t new was-free) at once)
 
   first-is : firstFree u ≡ next
-  first-is = firstFree-putCell ended new x y 1 0 1 ∙ firstFree-putEnds t next last long
+  first-is = firstFree-putCell ended new (newCell x y) refl ∙ firstFree-putEnds t next last long
 
   last-is : lastFree u ≡ last
-  last-is = lastFree-putCell ended new x y 1 0 1 ∙ lastFree-putEnds t next last long
+  last-is = lastFree-putCell ended new (newCell x y) refl ∙ lastFree-putEnds t next last long
 
   ends-rest : (is : List ℕ) → Linked t next is → lastOf (map suc (new ∷ is)) ≡ lastFree t → lastOf (map suc is) ≡ last
   unfolding lastOf
@@ -141,7 +144,7 @@ module _ (t : List ℕ) (ps : List Packet) (f : Facts t ps) (new : ℕ) (rest : 
         (λ i l m. other i left (omega arith) (λ e. let z = not-again in let n = rw e at m in omega arith)));
     ends = ends-rest rest (chain .linked .2) (chain .ends) ∙ sym last-is;
     once = rw same-capacity once-rest;
-    wiped = rw same-capacity (λ (i k : ℕ) (l : i < capacity t) (e : isFree u i ≡ true) (low : right ≤ k) (high : k ≤ state).
+    wiped = rw same-capacity (λ (i k : ℕ) (l : i < capacity t) (e : isFree u i ≡ true) (low : right ≤ k) (high : k < stride).
         let d : i ≢ new = λ z. not-both new-used (rw z at (free-not-in-use u i e)) in
         other i k (omega arith) d ∙ chain .wiped i k l (sym (free-same t u i (same-use i d)) ∙ e) low high);
   }
@@ -222,12 +225,12 @@ module _ (t : List ℕ) (ps : List Packet) (f : Facts t ps) (new : ℕ) (rest : 
 
     pub making : Facts u (ps ++ (make ∷ []))
     making = append-facts t u ps make f (record {
-      sameLength = length-putCell ended new x y 1 0 1 ∙ length-putEnds t next last;
+      sameLength = length-putCell ended new (newCell x y) ∙ length-putEnds t next last;
       wrote = make-wrote;
-      states = each-cell (λ i. i < capacity t → wordAt u i state ≤ 1) (λ _. omega (arith, cell-state ended new x y 1 0 1 inside)) (λ i d l. rw (other i state (omega arith) d) (f .states i l));
+      states = each-cell (λ i. i < capacity t → wordAt u i state ≤ 1) (λ _. omega (arith, new-word state (omega arith))) (λ i d l. rw (other i state (omega arith) d) (f .states i l));
       roots = each-cell (λ i. i < capacity t → wordAt u i rootCount ≤ 4095) (λ _. omega (arith, new-root)) (λ i d l. rw (other i rootCount (omega arith) d) (f .roots i l));
       counts = each-cell (λ i. i < capacity t → wordAt u i cellCount ≡ wordAt t i cellCount)
-          (λ _. cell-cell ended new x y 1 0 1 inside ∙ sym (free-zero t ps f new cellCount below was-free (omega arith) (omega arith)))
+          (λ _. new-word cellCount (omega arith) ∙ sym (free-zero t ps f new cellCount below was-free (omega arith) (omega arith)))
           (λ i d _. other i cellCount (omega arith) d);
       keeps = λ i _. keeps i;
       fields = field-fits;

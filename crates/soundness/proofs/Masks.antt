@@ -1,5 +1,5 @@
 -- A view with only some cells shown. Where packets wrote to cells that are shown, masking commutes with undoing.
-use mathlib.Core.Path.{_≡_, refl, sym, ap, _∙_}
+use mathlib.Core.Path.{_≡_, refl, sym, _∙_}
 use mathlib.Core.Logic.{⊎-elim}
 use mathlib.Core.Bool.{Bool, true, false, cond, not, _&&_}
 use mathlib.Core.List.{List, [], _∷_}
@@ -29,10 +29,6 @@ abbrev pub WritesShown : (ℕ → Bool) → Packet → Type 0
 WritesShown m p = Written (λ i k. m i ≡ true) p
 
 module _ (c : ℕ) (m : ℕ → Bool) where
-  mask-same : (v w : View) → Same c v w → Same c (mask m v) (mask m w)
-  unfolding mask
-  mask-same v w s i k l n = ap (λ (x : ℕ). cond (m i) x 0) (s i k l n)
-
   mask-put : (v : View) (i k w : ℕ) → m i ≡ true → Same c (putView (mask m v) i k w) (mask m (putView v i k w))
   unfolding mask putView
   mask-put v i k w h j n _ _ = ⊎-elim here (λ (e : eqb k n && eqb i j ≡ false). rw e) (tested (eqb k n && eqb i j))

@@ -18,7 +18,8 @@ use Rattle.machine.specs.Audit.{Sound}
 use Rattle.machine.proofs.Ring.{Arrays, waiting-appended}
 use Rattle.machine.proofs.Undo.{within-is}
 use Rattle.machine.proofs.Questions.{AllYes}
-use Rattle.soundness.proofs.ByKind.{moves, unnamed-waiting, waiting-snoc}
+use Rattle.machine.proofs.Lists.{waiting-snoc}
+use Rattle.soundness.proofs.ByKind.{moves, unnamed-waiting}
 use Rattle.soundness.proofs.Facts.{Facts, sound-facts, free-unnamed}
 use Rattle.soundness.proofs.Appending.{HeldFor, Wrote, wrote-pointers}
 use Rattle.soundness.proofs.RowAsked.{most-test, most-all}

@@ -22,7 +22,7 @@ module _ (q : Queue) (p : Packet) (ps : List Packet) (n : Slots q) (e : waiting 
 
   pub waiting-rest : waiting (taken q) ≡ ps
   waiting-rest =
-      let w = waiting-taken q (pred (q .count)) (n .place) (n .count) (omega (arith, one-waits)) in
+      let w = waiting-taken q (pred (q .count)) (n .shape .place) (n .shape .count) (omega (arith, one-waits)) in
       tails (slot q (q .place)) p (waiting (taken q)) ps (sym w ∙ e)
     where
       tails : (a b : Packet) (xs ys : List Packet) → a ∷ xs ≡ b ∷ ys → xs ≡ ys

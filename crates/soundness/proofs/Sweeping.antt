@@ -16,9 +16,10 @@ use Rattle.machine.specs.Reached.{isRoot, pointsTo, begun, onward, Reached, rea
 use Rattle.machine.specs.Step.{unreached, swept}
 use Rattle.machine.specs.Audit.{packetLegal}
 use Rattle.machine.specs.Facts.{Linked, Chain, pointersOut, Sweep}
-use Rattle.machine.proofs.Range.{tested, lt-or-ge, not-both, or-left, or-right, occurrences-append, matching-same, matching-other, total-same}
+use Rattle.machine.proofs.Range.{tested, lt-or-ge, not-both, or-left, or-right, occurrences-append, total-same}
 use Rattle.machine.proofs.Table.{free-not-in-use}
-use Rattle.machine.proofs.Chain.{Places, linked-places}
+use Rattle.machine.proofs.Lists.{at-most-one, last-occurs, Places, none-past}
+use Rattle.machine.proofs.Chain.{linked-places}
 use Rattle.machine.proofs.Reached.{reached-is}
 use Rattle.machine.proofs.Select.{select-places, select-once, dead-is}
 use Rattle.machine.proofs.Sweep.{sweeps}
@@ -29,17 +30,6 @@ use Rattle.soundness.proofs.Facts.{Facts, Live, last-within, free-zero,
 use Rattle.soundness.proofs.Appending.{chain-free, reached-used, reached-grows}
 use Rattle.soundness.proofs.Replacing.{points-by, points-cases}
 use Rattle.soundness.proofs.Masks.{mask, masked, unmasked, WritesShown, mask-earlier, unwritten-earlier, seen-split, mask-stages}
-
-last-occurs : (is : List ℕ) (z : ℕ) → lastOf (map suc is) ≡ suc z → 1 ≤ occurrences z is
-unfolding lastOf occurrences
-last-occurs [] z e = absurd (omega arith)
-last-occurs (y ∷ []) z e = omega (arith, matching-same y z 1 (omega arith))
-last-occurs (y ∷ x ∷ ys) z e = omega (arith, last-occurs (x ∷ ys) z e)
-
-none-past : (c : ℕ) (is : List ℕ) → Places c is → (i : ℕ) → c ≤ i → occurrences i is ≡ 0
-unfolding occurrences
-none-past c [] h i l = refl
-none-past c (j ∷ is) h i l = let k = h .0 in omega (arith, matching-other j i 1 (omega arith), none-past c is (h .1) i l)
 
 -- the pointers out of the cells that pass a test, as a sum
 out-append : (t : List ℕ) (is js : List ℕ) (x : ℕ) → pointersOut t (is ++ js) x ≡ pointersOut t is x + pointersOut t js x
@@ -188,16 +178,12 @@ module _ (t : List ℕ) (ps : List Packet) (f : Facts t ps) where
       (λ i h e l. let a = f .chain .once i l in let b = dead-once i l in rw (swept-use i l, h) (omega (arith, rw e at a, rw (e, h) at b)))
       (λ i h e l. let a = f .chain .once i l in let b = dead-once i l in rw (swept-use i l, h) (omega (arith, rw e at a, rw e at b)))
 
-  at-most-one : (b : Bool) → cond b 1 0 ≤ 1
-  at-most-one true = omega arith
-  at-most-one false = omega arith
-
   linked-all : Linked u (firstFree u) (f .free ++ dead) × (lastOf (map suc (f .free ++ dead)) ≡ lastFree u)
   linked-all = sweep .joined (f .free) (f .chain .linked) (f .chain .ends) (λ i. ⊎-elim (λ l. rw (both-once i l) (at-most-one (isFree u i)))
       (λ l. omega (arith, none-past c (f .free) (linked-places t (firstFree t) (f .free) (f .chain .linked)) i l, none-past c dead dead-places i l)) (lt-or-ge i c))
 
   -- a cell that is not reached ends with all but its left 0
-  wiped : (i k : ℕ) → i < c → live i ≡ false → right ≤ k → k ≤ state → wordAt u i k ≡ 0
+  wiped : (i k : ℕ) → i < c → live i ≡ false → right ≤ k → k < stride → wordAt u i k ≡ 0
   wiped i k l h low high = ⊎-elim (λ e. sweep .freed i k (is-dead i l e h) low high) free (tested (inUse t i))
     where
       free : inUse t i ≡ false → wordAt u i k ≡ 0
