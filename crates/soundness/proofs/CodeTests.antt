@@ -1,4 +1,4 @@
--- The code's tests are the paper's on a sound store, and a step that loses no root frees nothing.
+-- The code's tests are the paper's on a sound store.
 use mathlib.Core.Path.{_≡_, refl}
 use mathlib.Core.Logic.{⊎-elim, _↔_}
 use mathlib.Core.Bool.{false}
@@ -17,10 +17,10 @@ use Rattle.machine.specs.Audit.{Sound}
 use Rattle.machine.specs.Facts.{Chain}
 use Rattle.machine.proofs.Range.{tested, exists-some, not-both, matching-same}
 use Rattle.soundness.proofs.Views.{shown, pointers-seen, seen-waiting, stages-last}
-use Rattle.soundness.proofs.Facts.{Facts, sound-facts, all-placed}
-use Rattle.soundness.proofs.Replayed.{final-sum, final-most}
-use Rattle.soundness.proofs.Appending.{chain-free}
-use Rattle.soundness.proofs.RowWrote.{chain-some}
+use Rattle.soundness.proofs.Facts.{Facts, sound-facts, all-below}
+use Rattle.soundness.proofs.HeldCounts.{final-sum, final-most}
+use Rattle.soundness.proofs.NewPacket.{chain-free}
+use Rattle.soundness.proofs.RowWrites.{chain-some}
 
 module _ (t : List ℕ) (q : Queue) (s : Sound t q) where
   f : Facts t (waiting q)
@@ -29,7 +29,7 @@ module _ (t : List ℕ) (q : Queue) (s : Sound t q) where
   -- question 10 goes by the pointers: they are the cell count with its waiting changes
   pub pointers-counted : (i : ℕ) → i < capacity t
       → wordAt t i cellCount + waitingChange cell plus (suc i) (waiting q) ≡ pointers t (suc i) + waitingChange cell minus (suc i) (waiting q)
-  pointers-counted i l = omega (arith, f .counts i l, seen-waiting (capacity t) (shown t) (waiting q) i (all-placed t (waiting q) f) (f .stages), pointers-seen t i)
+  pointers-counted i l = omega (arith, f .counts i l, seen-waiting (capacity t) (shown t) (waiting q) i (all-below t (waiting q) f) (f .stages), pointers-seen t i)
 
   -- question 8: the first free end is 0 exactly where no cell is free
   pub first-free : (firstFree t ≡ 0) ↔ (cellFree t ≡ false)

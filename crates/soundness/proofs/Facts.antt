@@ -24,9 +24,9 @@ use Rattle.machine.proofs.Lists.{Places}
 use Rattle.machine.proofs.Chain.{linked-places, chain-is}
 use Rattle.machine.proofs.Reached.{reached-is}
 use Rattle.machine.proofs.Questions.{shape-is, shape-test}
-use Rattle.soundness.proofs.Views.{shown, seen, seen-same, earlier, All, Placed, all-map, StagesOf, pointers-seen}
-use Rattle.soundness.proofs.Fits.{Fit, field-fit, fit-field, LegalPacket, packets-legal, legal-packets, legal-placed, named-fit}
-use Rattle.soundness.proofs.Undoing.{before-shown, before-capacity, undoes-stages, stages-undoes}
+use Rattle.soundness.proofs.Views.{shown, seen, seen-same, earlier, All, WrittenBelow, all-map, StagesOf, pointers-seen}
+use Rattle.soundness.proofs.LegalPackets.{Fit, field-fit, fit-field, LegalPacket, packets-legal, legal-packets, legal-below, named-fit}
+use Rattle.soundness.proofs.Stages.{before-shown, before-capacity, undoes-stages, stages-undoes}
 
 -- what S1 to S4 say of a table with the packets ps waiting
 pub record Facts (t : List ℕ) (ps : List Packet) : Type 0 where
@@ -209,8 +209,8 @@ facts-sound t q n f l = record {
 }
 
 -- all packets write to fields of cells
-pub all-placed : (t : List ℕ) (ps : List Packet) → Facts t ps → All (Placed (capacity t)) ps
-all-placed t ps f = all-map (LegalPacket t) (Placed (capacity t)) ps (legal-placed t) (f .legal)
+pub all-below : (t : List ℕ) (ps : List Packet) → Facts t ps → All (WrittenBelow (capacity t)) ps
+all-below t ps f = all-map (LegalPacket t) (WrittenBelow (capacity t)) ps (legal-below t) (f .legal)
 
 -- a cell that is not free: a root count above 0, or named by a waiting packet
 module _ (t : List ℕ) (ps : List Packet) (f : Facts t ps) where

@@ -23,12 +23,12 @@ use Rattle.machine.proofs.Range.{tested, or-true}
 use Rattle.machine.proofs.Questions.{firstNo-zero}
 use Rattle.machine.proofs.Kept.{machine-refused, machine-accepted, gives-machine}
 use Rattle.soundness.specs.Demand3.{Link, Joined, Begun, tableAfter, queueAfter, Holds, holds, moved, answers, holdsFrom, holdsAfter, Held, NoneLost, NoneLeft, ExactWhenDone, Clauses, Demand3}
-use Rattle.soundness.proofs.ByKind.{unnamed-waiting}
+use Rattle.soundness.proofs.PacketKinds.{unnamed-waiting}
 use Rattle.soundness.proofs.Facts.{Facts, sound-facts, sound-live}
-use Rattle.soundness.proofs.Appending.{counted-used, pointed-used}
-use Rattle.soundness.proofs.Keeps.{decided}
+use Rattle.soundness.proofs.NewPacket.{counted-used, pointed-used}
+use Rattle.soundness.proofs.CallSound.{decided}
 use Rattle.soundness.proofs.CodeTests.{pointers-counted}
-use Rattle.soundness.proofs.HoldsKept.{Agrees, fresh-agrees, row-agrees, step-agrees}
+use Rattle.soundness.proofs.RootsAreHolds.{Agrees, fresh-agrees, row-agrees, step-agrees}
 
 -- the machine's own calls carry the facts on
 refused-agrees : (t : List ℕ) (q : Queue) (h : ℕ → Holds) (call : Call) (n : ℕ) → Agrees t q h → Agrees t q (λ x. moved x call (refused n) (h x))

@@ -2,8 +2,8 @@
 use mathlib.Core.List.{List}
 use Prim.Native.Nat.{ℕ}
 use Rattle.machine.specs.declared.Queue.{Queue}
+use Rattle.machine.specs.Queue.{Arrays}
 use Rattle.machine.specs.Audit.{Sound}
-use Rattle.machine.proofs.Ring.{Arrays}
 
 pub record Whole (t : List ℕ) (q : Queue) : Type 0 where
   pub sound : Sound t q

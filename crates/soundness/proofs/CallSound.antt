@@ -19,7 +19,7 @@ use Rattle.machine.proofs.Range.{and-first, and-second}
 use Rattle.machine.proofs.Ring.{arrays-appended, arrays-taken}
 use Rattle.machine.proofs.Kept.{machine-refused, machine-accepted, early-yes, gives-machine}
 use Rattle.soundness.specs.Whole.{Whole}
-use Rattle.soundness.proofs.SlotsKept.{arrays-empty}
+use Rattle.soundness.proofs.ZeroSlots.{arrays-empty}
 use Rattle.soundness.proofs.FreshSound.{fresh-sound}
 use Rattle.soundness.proofs.RowSound.{row-sound}
 use Rattle.soundness.proofs.StepSound.{step-sound}

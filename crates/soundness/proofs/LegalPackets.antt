@@ -15,7 +15,7 @@ use Rattle.machine.specs.Audit.{fieldSound, wordsOfKind, packetLegal, namesInUs
 use Rattle.machine.proofs.Range.{or-true, or-left, or-right, and-both, and-first, and-second}
 use Rattle.machine.proofs.Lists.{everyOf-at, everyOf-all}
 use Rattle.machine.proofs.Words.{cell-place, cell-number}
-use Rattle.soundness.proofs.Views.{All, Written, WrittenOf, Placed, Detached, DetachedOf}
+use Rattle.soundness.proofs.Views.{All, Written, WrittenOf, WrittenBelow, Detached, DetachedOf}
 
 -- nil, an atom, or a cell in use
 pub record Fit (t : List ℕ) (w : ℕ) : Type 0 where
@@ -156,8 +156,8 @@ written-map P Q p f = go (kindOf (p .kind)) (p .c)
     go lowers c h = tt
     go unknown c h = tt
 
-pub legal-placed : (t : List ℕ) (p : Packet) → LegalPacket t p → Placed (capacity t) p
-legal-placed t p h = written-map (WrittenIn t) (λ i k. (i < capacity t) × (k ≤ right)) p (λ i k w. (w .below, w .field)) (legal-written t p h)
+pub legal-below : (t : List ℕ) (p : Packet) → LegalPacket t p → WrittenBelow (capacity t) p
+legal-below t p h = written-map (WrittenIn t) (λ i k. (i < capacity t) × (k ≤ right)) p (λ i k w. (w .below, w .field)) (legal-written t p h)
 
 pub legal-detached : (t : List ℕ) (p : Packet) → LegalPacket t p → Detached (Fit t) p
 unfolding names namesOf

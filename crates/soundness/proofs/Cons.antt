@@ -9,7 +9,7 @@ use lib.Dec.{eqb, ltb, eqb·suc-zero}
 use lib.ListN.{length, getD}
 use borrow.Author.Tests.{eqb-true, eqb-false, eq-eqb, lt-ltb}
 use Rattle.machine.specs.Range.{matching, occurrences, lastOf}
-use Rattle.machine.specs.Words.{isLegal}
+use Rattle.machine.specs.Words.{isLegal, ceiling}
 use Rattle.machine.specs.Table.{stride, left, right, rootCount, cellCount, state, capacity, firstFree, lastFree, newCell, wordAt, putEnds, putCell, inUse, isFree}
 use Rattle.machine.specs.Queue.{Packet, packet}
 use Rattle.machine.specs.Packets.{kindOf, namesOf, names, usesOf, uses, isNamed}
@@ -20,20 +20,20 @@ use Rattle.machine.proofs.Range.{tested, or-left, and-both, not-both, matching-
 use Rattle.machine.proofs.Words.{place-cell}
 use Rattle.machine.proofs.Table.{Inside, room, cell-word, cell-other, word-putEnds, length-putEnds, length-putCell, capacity-putEnds, capacity-putCell, firstFree-putEnds, firstFree-putCell, lastFree-putEnds, lastFree-putCell, free-not-in-use, not-in-use-free}
 use Rattle.soundness.proofs.Views.{shown, Same, putView, put-same, put-other}
-use Rattle.soundness.proofs.Fits.{Fit, fit-grows, LegalPacket}
-use Rattle.soundness.proofs.Undoing.{shown-used, shown-free}
+use Rattle.soundness.proofs.LegalPackets.{Fit, fit-grows, LegalPacket}
+use Rattle.soundness.proofs.Stages.{shown-used, shown-free}
 use Rattle.soundness.proofs.Facts.{Facts, Live, free-zero, free-unnamed}
-use Rattle.soundness.proofs.Replayed.{replay-append, replays-unnamed}
-use Rattle.soundness.proofs.Appending.{Wrote, append-facts, linked-same, chain-free, free-same, operand-fit, reached-used, reached-grows, root-stays}
-use Rattle.soundness.proofs.RowAsked.{Passed}
-use Rattle.soundness.proofs.Unwritten.{cell-legal, names-three}
-use Rattle.soundness.proofs.Replacing.{points-by, points-cases}
+use Rattle.soundness.proofs.HeldCounts.{replay-append, replays-unnamed}
+use Rattle.soundness.proofs.NewPacket.{Wrote, append-facts, linked-same, chain-free, free-same, operand-fit, reached-used, reached-grows, root-stays}
+use Rattle.soundness.proofs.RowQuestions.{Passed}
+use Rattle.soundness.proofs.ReadUpDown.{cell-legal, names-three}
+use Rattle.soundness.proofs.Replace.{points-by, points-cases}
 
 occurrences-head : (i : ℕ) (is : List ℕ) (j : ℕ) → occurrences j (i ∷ is) ≡ matching i j 1 + occurrences j is
 unfolding occurrences
 occurrences-head i is j = refl
 
--- the place new leaves the head of the chain and becomes a cell of x and y
+-- the cell at index new leaves the head of the chain and becomes one of x and y
 abbrev pub withCell : List ℕ → ℕ → ℕ → ℕ → List ℕ
 withCell t new x y = putCell (putEnds t (wordAt t new left) (cond (eqb (wordAt t new left) 0) 0 (lastFree t))) new (newCell x y)
 
@@ -97,8 +97,8 @@ module _ (t : List ℕ) (ps : List Packet) (f : Facts t ps) (new : ℕ) (rest : 
   new-used = lt-ltb 0 (wordAt u new state) (omega (arith, new-word state (omega arith)))
 
   -- the new cell has the root count 1, and no other root count changes
-  pub making-root : (i : ℕ) → i < capacity t → wordAt u i rootCount ≡ wordAt t i rootCount + matching (suc new) (suc i) 1
-  making-root = each-cell (λ i. i < capacity t → wordAt u i rootCount ≡ wordAt t i rootCount + matching (suc new) (suc i) 1)
+  pub cons-roots : (i : ℕ) → i < capacity t → wordAt u i rootCount ≡ wordAt t i rootCount + matching (suc new) (suc i) 1
+  cons-roots = each-cell (λ i. i < capacity t → wordAt u i rootCount ≡ wordAt t i rootCount + matching (suc new) (suc i) 1)
       (λ _. omega (arith, new-root, free-zero t ps f new rootCount below was-free (omega arith) (omega arith), matching-same (suc new) (suc new) 1 refl))
       (λ i d _. omega (arith, other i rootCount (omega arith) d, matching-other (suc new) (suc i) 1 (λ e. d (omega arith))))
 
@@ -165,11 +165,11 @@ module _ (t : List ℕ) (ps : List Packet) (f : Facts t ps) (new : ℕ) (rest : 
   at-cell : (k w : ℕ) → wordAt u new k ≡ w → shown u (pred (suc new)) k ≡ w
   at-cell k w e = ap (λ (i : ℕ). shown u i k) (let d : pred (suc new) ≡ new = omega arith in d) ∙ shown-used u new k new-used ∙ e
 
-  pub make-wrote : Wrote t u make
+  pub cons-wrote : Wrote t u make
   unfolding kindOf
-  make-wrote = record {
+  cons-wrote = record {
     sameCapacity = same-capacity;
-    placed = ((omega (arith, below), omega arith), (omega (arith, below), omega arith));
+    below = ((omega (arith, below), omega arith), (omega (arith, below), omega arith));
     holds = (at-cell left x new-left, at-cell right y new-right);
     undoes = λ i k l m. ap (λ (n : ℕ). putView (putView (shown u) n left 0) n right 0 i k) (let d : pred (suc new) ≡ new = omega arith in d) ∙ undone-cell i k l m;
   }
@@ -213,9 +213,9 @@ module _ (t : List ℕ) (ps : List Packet) (f : Facts t ps) (new : ℕ) (rest : 
         (λ i d l. let e = other i rootCount (omega arith) d in
         rw e (replay-append (suc i) (wordAt t i rootCount) ps make (f .replay i l) (a .held i l) (rw e at (a .most i (rw same-capacity l)))))
 
-    make-legal : LegalPacket u make
+    packet-legal : LegalPacket u make
     unfolding packetLegal wordsOfKind names namesOf kindOf
-    make-legal =
+    packet-legal =
         let gx = grows x x-fit in
         let gy = grows y y-fit in
         record {
@@ -223,12 +223,12 @@ module _ (t : List ℕ) (ps : List Packet) (f : Facts t ps) (new : ℕ) (rest : 
           names = names-three (Fit u) x y (suc new) gx gy new-fit;
         }
 
-    pub making : Facts u (ps ++ (make ∷ []))
-    making = append-facts t u ps make f (record {
+    pub cons-facts : Facts u (ps ++ (make ∷ []))
+    cons-facts = append-facts t u ps make f (record {
       sameLength = length-putCell ended new (newCell x y) ∙ length-putEnds t next last;
-      wrote = make-wrote;
+      wrote = cons-wrote;
       states = each-cell (λ i. i < capacity t → wordAt u i state ≤ 1) (λ _. omega (arith, new-word state (omega arith))) (λ i d l. rw (other i state (omega arith) d) (f .states i l));
-      roots = each-cell (λ i. i < capacity t → wordAt u i rootCount ≤ 4095) (λ _. omega (arith, new-root)) (λ i d l. rw (other i rootCount (omega arith) d) (f .roots i l));
+      roots = each-cell (λ i. i < capacity t → wordAt u i rootCount ≤ ceiling) (λ _. omega (arith, new-root)) (λ i d l. rw (other i rootCount (omega arith) d) (f .roots i l));
       counts = each-cell (λ i. i < capacity t → wordAt u i cellCount ≡ wordAt t i cellCount)
           (λ _. new-word cellCount (omega arith) ∙ sym (free-zero t ps f new cellCount below was-free (omega arith) (omega arith)))
           (λ i d _. other i cellCount (omega arith) d);
@@ -236,13 +236,13 @@ module _ (t : List ℕ) (ps : List Packet) (f : Facts t ps) (new : ℕ) (rest : 
       fields = field-fits;
       free = rest;
       chain = rest-chain;
-      legal = make-legal;
+      legal = packet-legal;
       replay = replay-all;
       within = rw same-capacity at (a .within);
     })
 
-    pub making-live : Live t ps → Live u (ps ++ (make ∷ []))
-    making-live live i l = each-cell (λ j. j < capacity u → inUse u j ≡ true → Reached u (ps ++ (make ∷ [])) j) (λ m _. begun m new-is-root) old i l
+    pub cons-live : Live t ps → Live u (ps ++ (make ∷ []))
+    cons-live live i l = each-cell (λ j. j < capacity u → inUse u j ≡ true → Reached u (ps ++ (make ∷ [])) j) (λ m _. begun m new-is-root) old i l
       where
         new-is-root : isRoot u (ps ++ (make ∷ [])) new ≡ true
         new-is-root = unfold isRoot in or-left (isNamed (ps ++ (make ∷ [])) (suc new)) (lt-ltb 0 (wordAt u new rootCount) (omega (arith, new-root)))

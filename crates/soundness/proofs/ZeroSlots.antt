@@ -7,10 +7,10 @@ use Prim.Native.Nat.{ℕ, suc, _+_, _-_, _%_, _≤_, _<_}
 use native.Mathlib.Omega.{arith}
 use Rattle.machine.specs.declared.Queue.{Queue}
 use Rattle.machine.specs.Range.{every}
-use Rattle.machine.specs.Queue.{Packet, slots, slot, putSlot, emptyQueue, appended, taken, packetsFrom, waiting, zeroPacket}
+use Rattle.machine.specs.Queue.{Arrays, Packet, slots, slot, putSlot, emptyQueue, appended, taken, packetsFrom, waiting, zeroPacket}
 use Rattle.machine.specs.Audit.{isZeroPacket, otherSlotsZero}
 use Rattle.machine.proofs.Range.{every-at, every-all, below-suc}
-use Rattle.machine.proofs.Ring.{Arrays, slot-same, slot-other}
+use Rattle.machine.proofs.Ring.{slot-same, slot-other}
 use Rattle.soundness.proofs.Facts.{Slots}
 
 zero-packet : isZeroPacket zeroPacket ≡ true
