@@ -1,26 +1,26 @@
 -- S2's test says that the free chain meets every free cell once, from first to last.
 use mathlib.Core.Path.{_≡_, refl, sym, ap, ap₂, _∙_}
-use mathlib.Core.Logic.{_⊎_, inl, inr, ⊎-elim, _↔_}
-use mathlib.Core.Bool.{Bool, true, false, cond, not, _&&_, _||_}
-use mathlib.Core.List.{List, [], _∷_, _++_, map}
-use Prim.Native.Nat.{ℕ, zero, suc, pred, _+_, _≤_, _<_, zero-le}
+use mathlib.Core.Logic.{⊎-elim, _↔_}
+use mathlib.Core.Bool.{Bool, true, false, cond, _&&_, _||_}
+use mathlib.Core.List.{List, [], _∷_, map}
+use Prim.Native.Nat.{ℕ, zero, suc, pred, _+_, _≤_, _<_}
 use native.Mathlib.Omega.{arith}
 use native.Mathlib.Nat.{not-suc-le-zero}
-use lib.Dec.{leb, eqb, eqb·suc-zero, eqb·suc-suc}
+use lib.Dec.{eqb, eqb·suc-zero, eqb·suc-suc}
 use lib.ListN.{length, length-map}
-use borrow.Author.Tests.{eqb-true, eqb-false, eq-eqb, ne-eqb}
+use borrow.Author.Tests.{eqb-true, eq-eqb}
 use Rattle.machine.specs.Range.{every, total, matching, occurrences, everyOf, lastOf}
 use Rattle.machine.specs.Words.{isCell}
 use Rattle.machine.specs.Table.{stride, left, right, rootCount, cellCount, state, capacity, firstFree, lastFree, wordAt, inUse, isFree}
 use Rattle.machine.specs.Calls.{field}
 use Rattle.machine.specs.Audit.{walk, freeChain, laidOut, metOnce, chainSound}
 use Rattle.machine.specs.Facts.{Linked, Chain}
-use Rattle.machine.proofs.Range.{tested, or-true, or-left, or-right, and-both, and-first, and-second, every-at, every-all, total-same, total-le, total-add, total-ones, total-zero, total-one, matching-same, matching-other, lt-or-ge}
+use Rattle.machine.proofs.Range.{tested, or-left, or-right, and-both, and-first, and-second, every-at, every-all, total-le, total-add, total-ones, total-zero, total-one}
 use Rattle.machine.proofs.Lists.{at-most-one, Places}
 use Rattle.machine.proofs.Table.{each-word, free-not-in-use, not-in-use-free}
 use Rattle.machine.proofs.Words.{cell-place, cell-number, place-cell}
 
--- places as numbers
+-- indices as numbers
 matching-suc : (w x n : ℕ) → matching (suc w) (suc x) n ≡ matching w x n
 unfolding matching
 matching-suc w x n = rw (eqb·suc-suc w x)
@@ -30,14 +30,14 @@ unfolding occurrences
 occurrences-suc x [] = refl
 occurrences-suc x (i ∷ is) = rw (matching-suc i x 1, occurrences-suc x is)
 
--- the places below c, each counted as often as it stands in a list, are the list's length
+-- the indices below c, each counted as often as it stands in a list, are the list's length
 pub total-occurrences : (c : ℕ) (is : List ℕ) → Places c is → total c (λ i. occurrences i is) ≡ length is
 unfolding occurrences
 total-occurrences c [] p = total-zero c
 total-occurrences c (i ∷ is) p =
     total-add c (λ j. matching i j 1) (λ j. occurrences j is) ∙ ap₂ _+_ (total-one c i (p .0)) (total-occurrences c is (p .1)) ∙ omega arith
 
--- no place twice: no more than there are
+-- no index twice: no more than there are
 few : (c : ℕ) (is : List ℕ) → Places c is → ((i : ℕ) → i < c → occurrences i is ≤ 1) → length is ≤ c
 few c is p h = omega (arith, total-occurrences c is p, total-le c (λ i. occurrences i is) (λ i. 1) h, total-ones c)
 
@@ -70,7 +70,7 @@ walk-linked t (suc n) w l h = ⊎-elim stop (λ e. on e (λ k m. walk-linked t n
         let rest = and-second (isCell (capacity t) w) (everyOf (walk t n (wordAt t (pred w) left)) (isCell (capacity t))) h′ in
         rw (walk-on t n w e) (cell-number (capacity t) w first, cell-place (capacity t) w first, f (omega arith) rest)
 
--- and the numbers of its places are the walk
+-- and the numbers of its indices are the walk
 walk-numbers : (c : ℕ) (ws : List ℕ) → everyOf ws (isCell c) ≡ true → map suc (map pred ws) ≡ ws
 unfolding everyOf
 walk-numbers c [] h = refl
@@ -145,28 +145,28 @@ module _ (t : List ℕ) (h : chainSound t ≡ true) where
       eqb-true (occurrences (suc i) met) (cond (isFree t i) 1 0)
       (every-at (capacity t) (metOnce t met) (and-second all-cells all-once (and-first (all-cells && all-once) last-meets (and-first (all-cells && all-once && last-meets) all-laid tests))) i l)
 
-  places : List ℕ
-  places = map pred met
+  indices : List ℕ
+  indices = map pred met
 
-  numbers-of : map suc places ≡ met
-  unfolding places
+  numbers-of : map suc indices ≡ met
+  unfolding indices
   numbers-of = walk-numbers (capacity t) met met-cells
 
-  places-once : (i : ℕ) → i < capacity t → occurrences i places ≡ cond (isFree t i) 1 0
-  places-once i l = sym (occurrences-suc i places) ∙ ap (occurrences (suc i)) numbers-of ∙ met-once i l
+  indices-once : (i : ℕ) → i < capacity t → occurrences i indices ≡ cond (isFree t i) 1 0
+  indices-once i l = sym (occurrences-suc i indices) ∙ ap (occurrences (suc i)) numbers-of ∙ met-once i l
 
-  places-below : (ws : List ℕ) → everyOf ws (isCell (capacity t)) ≡ true → Places (capacity t) (map pred ws)
+  indices-below : (ws : List ℕ) → everyOf ws (isCell (capacity t)) ≡ true → Places (capacity t) (map pred ws)
   unfolding everyOf
-  places-below [] e = tt
-  places-below (w ∷ ws) e = (
+  indices-below [] e = tt
+  indices-below (w ∷ ws) e = (
     cell-place (capacity t) w (and-first (isCell (capacity t) w) (everyOf ws (isCell (capacity t))) e),
-    places-below ws (and-second (isCell (capacity t) w) (everyOf ws (isCell (capacity t))) e),
+    indices-below ws (and-second (isCell (capacity t) w) (everyOf ws (isCell (capacity t))) e),
   )
 
   met-few : length met < suc (capacity t)
-  unfolding places
+  unfolding indices
   met-few =
-      let n : length (map pred met) ≤ capacity t = few (capacity t) (map pred met) (places-below met met-cells) (λ i l. rw (places-once i l) (at-most-one (isFree t i))) in
+      let n : length (map pred met) ≤ capacity t = few (capacity t) (map pred met) (indices-below met met-cells) (λ i l. rw (indices-once i l) (at-most-one (isFree t i))) in
       omega (arith, length-map met pred)
 
   laid : (i : ℕ) → i < capacity t → isFree t i ≡ true → laidOut t i ≡ true
@@ -175,11 +175,11 @@ module _ (t : List ℕ) (h : chainSound t ≡ true) where
       rw (free-not-in-use t i f) at e
 
   pub chain-facts : Chain t (map pred (freeChain t))
-  unfolding places freeChain
+  unfolding indices freeChain
   chain-facts = record {
     linked = walk-linked t (suc (capacity t)) (firstFree t) met-few met-cells;
     ends = ap lastOf numbers-of ∙ eqb-true (lastOf met) (lastFree t) (and-second (all-cells && all-once) last-meets (and-first (all-cells && all-once && last-meets) all-laid tests));
-    once = places-once;
+    once = indices-once;
     wiped = λ i k l f. laid-wiped t i (laid i l f) k;
   }
 

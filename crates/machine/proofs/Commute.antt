@@ -55,7 +55,7 @@ module _ (t : List ℕ) (i p v : ℕ) where
   abbrev put : List ℕ → List ℕ
   put u = putWord u p cellCount v
 
-  -- a cell count written and the cell at place i wiped
+  -- a cell count written and the cell at index i wiped
   wipe-other : (p ≡ i → ⊥) → putCell (put t) i (freeCell 0) ≡ put (putCell t i (freeCell 0))
   unfolding putCell
   wipe-other d = words-other t i left (freeCell 0) (omega arith) p cellCount v (omega arith) d

@@ -1,22 +1,22 @@
 -- What fresh makes of any table that is long enough.
 use mathlib.Core.Path.{_≡_, refl, sym, ap, _∙_}
 use mathlib.Core.Logic.{⊎-elim}
-use mathlib.Core.Bool.{cond, true, false}
+use mathlib.Core.Bool.{cond}
 use mathlib.Core.List.{List}
 use Prim.Native.Nat.{ℕ, zero, suc, _+_, _*_, _≤_, _<_}
 use native.Mathlib.Omega.{arith}
 use native.Mathlib.Nat.{not-suc-le-zero}
 use lib.Dec.{eqb}
 use lib.ListN.{length, getD, set, drop, length-set}
-use lib.Seq.{getD-set-same, getD-set-other, drop-set-lt}
+use lib.Seq.{getD-set-same, drop-set-lt}
 use borrow.Author.Tests.{eq-eqb, ne-eqb}
-use Rattle.machine.specs.Table.{header, stride, left, right, freeCell, capacity, firstFree, lastFree, tableLength, wordAt, putEnds, putCell}
+use Rattle.machine.specs.Table.{header, stride, left, freeCell, capacity, firstFree, lastFree, tableLength, wordAt, putEnds, putCell}
 use Rattle.machine.specs.Calls.{chained, freshTable}
 use Rattle.machine.specs.Facts.{FreshTable}
 use Rattle.machine.proofs.Range.{below-suc}
-use Rattle.machine.proofs.Table.{Inside, room, inside-putCell, cell-word, free-word, cell-other, length-putCell, capacity-putCell, firstFree-putCell, lastFree-putCell, past-putCell, length-putEnds, capacity-putEnds, firstFree-putEnds, lastFree-putEnds, past-putEnds}
+use Rattle.machine.proofs.Table.{Inside, room, cell-word, free-word, cell-other, length-putCell, capacity-putCell, firstFree-putCell, lastFree-putCell, past-putCell, length-putEnds, capacity-putEnds, firstFree-putEnds, lastFree-putEnds, past-putEnds}
 
--- the left word of place i in a chain of c
+-- the left word of the cell at index i in a chain of c
 abbrev nextOf : ℕ → ℕ → ℕ
 nextOf c i = cond (eqb (suc i) c) 0 (suc (suc i))
 

@@ -1,20 +1,18 @@
 -- For every store and call the machine's own answer keeps the promise.
 use mathlib.Core.Path.{_≡_, refl, sym, ap, _∙_}
-use mathlib.Core.Logic.{⊎-elim}
 use mathlib.Core.Bool.{true}
-use mathlib.Core.List.{List, [], _∷_, _++_}
-use Prim.Native.Nat.{ℕ, zero, suc, pred, _+_, _-_, _≤_, _<_}
+use mathlib.Core.List.{List, [], _∷_}
+use Prim.Native.Nat.{ℕ, zero, suc, pred, _≤_, _<_}
 use native.Mathlib.Omega.{arith}
-use lib.ListN.{length, drop, replicate, length-append, length-replicate, length-drop}
-use lib.Seq.{drop-at}
+use lib.ListN.{length, drop}
 use borrow.Author.Tests.{leb-true}
 use Rattle.machine.specs.Table.{stride, left, right, newCell, scratchWords, capacity, firstFree, lastFree, tableLength, putWord, putEnds, putCell}
 use Rattle.machine.specs.Queue.{Packet, waiting}
 use Rattle.machine.specs.Packets.{contains, Change, changes}
 use Rattle.machine.specs.Calls.{Call, fresh, row, step, audit, RowCall, car, cdr, cons, setLeft, setRight, up, down}
-use Rattle.machine.specs.Calls.{Reply, value, refused, idle, applied, sound, broken, Store, store, withoutFirst, written, field}
+use Rattle.machine.specs.Calls.{Reply, refused, Store, store, withoutFirst, written}
 use Rattle.machine.specs.Step.{moveCount, applyChanges, unreached, swept, cleared, Outcome, outcome, stepWith, stepFrom, stepped}
-use Rattle.machine.specs.Questions.{firstNo, earlyRow, early, late, questions, inRange, scratchEnough, xIsCell}
+use Rattle.machine.specs.Questions.{firstNo, earlyRow, early, late, questions, scratchEnough, xIsCell}
 use Rattle.machine.specs.Audit.{rules, auditReply, audited}
 use Rattle.machine.specs.Machine.{accepted, answered, machine}
 use Rattle.machine.specs.Promise.{ByMachine, Gives, Untouched, Bounded, numbers, Promise}
@@ -106,9 +104,9 @@ framed-new t f g i ws e h = record {
 }
 
 -- the questions that say "yes" before a row call is accepted make its writes lie within the cells
-x-place : (t : List ℕ) (x : ℕ) → xIsCell t x ≡ true → pred x < capacity t
+x-index : (t : List ℕ) (x : ℕ) → xIsCell t x ≡ true → pred x < capacity t
 unfolding xIsCell
-x-place t x h = cell-place (capacity t) x h
+x-index t x h = cell-place (capacity t) x h
 
 framed-written : (s : Store) (r : RowCall) → AllYes (early s (row r)) → Framed (s .table) (written (s .table) r)
 unfolding early earlyRow written withoutFirst
@@ -117,8 +115,8 @@ framed-written s (cdr x) h = framed-refl (s .table)
 framed-written s (cons x y) h =
     let shape = shape-is (s .table) (s .queue) (h .0) in
     framed-new (s .table) _ _ (pred (firstFree (s .table))) (newCell x y) refl (omega (arith, shape .table .first, shape .table .some))
-framed-written s (setLeft x y) h = framed-putWord (s .table) (pred x) left y (x-place (s .table) x (h .1 .1 .0)) (omega arith)
-framed-written s (setRight x y) h = framed-putWord (s .table) (pred x) right y (x-place (s .table) x (h .1 .1 .0)) (omega arith)
+framed-written s (setLeft x y) h = framed-putWord (s .table) (pred x) left y (x-index (s .table) x (h .1 .1 .0)) (omega arith)
+framed-written s (setRight x y) h = framed-putWord (s .table) (pred x) right y (x-index (s .table) x (h .1 .1 .0)) (omega arith)
 framed-written s (up x n) h = framed-refl (s .table)
 framed-written s (down x n) h = framed-refl (s .table)
 

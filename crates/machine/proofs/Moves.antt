@@ -1,19 +1,19 @@
 -- Laws of moving one counter of a word: one law over the counter and the direction.
 use mathlib.Core.Path.{_≡_, refl, sym, ap, _∙_}
-use mathlib.Core.Logic.{_⊎_, inl, inr, ⊎-elim, _≢_}
-use mathlib.Core.Bool.{Bool, true, false, cond, _&&_}
-use mathlib.Core.List.{List, [], _∷_}
-use Prim.Native.Nat.{ℕ, zero, suc, pred, _+_, _-_, _≤_, _<_}
+use mathlib.Core.Logic.{⊎-elim, _≢_}
+use mathlib.Core.Bool.{true, false}
+use mathlib.Core.List.{List}
+use Prim.Native.Nat.{ℕ, suc, pred, _≤_, _<_}
 use native.Mathlib.Omega.{arith}
 use lib.Dec.{eqb}
 use lib.ListN.{length, drop}
 use borrow.Author.Tests.{eqb-true, eqb-false}
 use Rattle.machine.specs.Range.{matching}
 use Rattle.machine.specs.Words.{isCell}
-use Rattle.machine.specs.Table.{stride, left, rootCount, cellCount, state, capacity, firstFree, lastFree, tableLength, wordAt, putWord}
-use Rattle.machine.specs.Packets.{Counter, root, cell, Direction, plus, minus, Change}
-use Rattle.machine.specs.Step.{counterWord, shifted, moveCount, applyChanges}
-use Rattle.machine.proofs.Range.{tested, not-both, matching-same, matching-other}
+use Rattle.machine.specs.Table.{stride, capacity, firstFree, lastFree, tableLength, wordAt, putWord}
+use Rattle.machine.specs.Packets.{Counter, root, cell, Direction, plus, minus}
+use Rattle.machine.specs.Step.{counterWord, shifted, moveCount}
+use Rattle.machine.proofs.Range.{tested, matching-same, matching-other}
 use Rattle.machine.proofs.Words.{cell-place, cell-number, place-cell}
 use Rattle.machine.proofs.Table.{room, word-same, word-other, length-putWord, capacity-putWord, firstFree-putWord, lastFree-putWord, past-putWord}
 

@@ -1,9 +1,9 @@
 -- Laws of lists of questions: what the first "no" says, and what holds where there is none; question 1 as plain facts.
-use mathlib.Core.Path.{_≡_, refl, sym, ap, _∙_}
+use mathlib.Core.Path.{_≡_, refl, sym, _∙_}
 use mathlib.Core.Logic.{⊎-elim}
-use mathlib.Core.Bool.{Bool, true, false, _&&_}
+use mathlib.Core.Bool.{true, false, _&&_}
 use mathlib.Core.List.{List, [], _∷_, _++_}
-use Prim.Native.Nat.{ℕ, zero, suc, _≤_, _<_}
+use Prim.Native.Nat.{ℕ, suc, _≤_, _<_}
 use native.Mathlib.Omega.{arith}
 use lib.Dec.{leb, ltb, eqb}
 use lib.ListN.{length}
@@ -13,8 +13,8 @@ use Rattle.machine.specs.Words.{mostCells}
 use Rattle.machine.specs.Table.{capacity, firstFree, lastFree, tableLength, scratchWords}
 use Rattle.machine.specs.Queue.{slots}
 use Rattle.machine.specs.Packets.{contains}
-use Rattle.machine.specs.Calls.{RowCall, car, cdr, cons, setLeft, setRight, up, down, Call, fresh, row, step, audit, Store, store}
-use Rattle.machine.specs.Questions.{Question, firstNo, refusedBy, earlyRow, early, askFree, lateRow, late, inRange, scratchEnough}
+use Rattle.machine.specs.Calls.{car, cdr, cons, setLeft, setRight, up, down, Call, fresh, row, step, audit, Store, store}
+use Rattle.machine.specs.Questions.{Question, firstNo, earlyRow, early, inRange, scratchEnough}
 use Rattle.machine.specs.Facts.{Shape, Lent}
 use Rattle.machine.specs.Promise.{numbers}
 use Rattle.machine.proofs.Range.{tested, or-left, or-right, and-first, and-second}

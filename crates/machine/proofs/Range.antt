@@ -1,16 +1,16 @@
 -- Laws of the tests over a range and over lists.
-use mathlib.Core.Path.{_≡_, refl, sym, ap, ap₂, _∙_, subst}
+use mathlib.Core.Path.{_≡_, refl, sym, ap, ap₂, _∙_}
 use mathlib.Core.Logic.{_⊎_, inl, inr, ⊎-elim, _≢_}
-use mathlib.Core.Bool.{Bool, true, false, cond, not, _&&_, _||_, and-eq-true-iff, true≢false, false≢true}
+use mathlib.Core.Bool.{Bool, true, false, _&&_, _||_, and-eq-true-iff, true≢false, false≢true}
 use mathlib.Core.List.{List, [], _∷_, _++_}
-use Prim.Native.Nat.{ℕ, zero, suc, _+_, _≤_, _<_, zero-le, suc-le-suc}
-use native.Mathlib.Nat.{le-suc-iff, le-of-suc-le-suc, not-suc-le-zero}
+use Prim.Native.Nat.{ℕ, zero, suc, _+_, _≤_, _<_}
+use native.Mathlib.Nat.{le-of-suc-le-suc, not-suc-le-zero}
 use native.Mathlib.Omega.{arith}
-use lib.Dec.{eqb, ltb}
+use lib.Dec.{ltb}
 use lib.ListN.{length, getD, length-append, List·getD-append}
 use lib.Seq.{getD-at}
-use borrow.Author.Tests.{eq-eqb, ne-eqb, eqb-true, eqb-false, ltb-true, ltb-false}
-use Rattle.machine.specs.Range.{every, exists, total, select, tabulate, matching, occurrences, everyOf, lastOf}
+use borrow.Author.Tests.{eq-eqb, ne-eqb, ltb-true, ltb-false}
+use Rattle.machine.specs.Range.{every, exists, total, tabulate, matching, occurrences}
 
 -- the cases of a bound that is one larger
 pub below-suc : {i n : ℕ} → i < suc n → (i < n) ⊎ (i ≡ n)
@@ -137,7 +137,7 @@ unfolding total
 total-add zero f g = omega arith
 total-add (suc n) f g = rw (total-add n f g) (omega arith)
 
--- one place among n is met once
+-- one number among n is met once
 pub total-one : (n j : ℕ) → j < n → total n (λ i. matching j i 1) ≡ 1
 total-one n j l =
     let e : total n (λ i. matching j i 1) + 0 ≡ total n (λ i. 0) + matching j j 1 =
@@ -172,11 +172,6 @@ getD-tabulate (suc n) f i l = ⊎-elim (λ m. inside m (getD-tabulate n f i m)) 
 
     last : i ≡ n → getD (tabulate n f ++ (f n ∷ [])) i false ≡ f i
     last e = getD-at (tabulate n f) (f n) [] false i (length-tabulate n f ∙ sym e) ∙ ap f (sym e)
-
-pub everyOf-append : (p : ℕ → Bool) (xs ys : List ℕ) → everyOf xs p ≡ true → everyOf ys p ≡ true → everyOf (xs ++ ys) p ≡ true
-unfolding everyOf
-everyOf-append p [] ys h k = k
-everyOf-append p (x ∷ xs) ys h k = and-both (and-first (p x) (everyOf xs p) h) (everyOf-append p xs ys (and-second (p x) (everyOf xs p) h) k)
 
 pub occurrences-append : (x : ℕ) (xs ys : List ℕ) → occurrences x (xs ++ ys) ≡ occurrences x xs + occurrences x ys
 unfolding occurrences

@@ -1,12 +1,11 @@
 -- Inductive and computed reached are the same: a round of spreading either adds a mark or changes nothing, so c rounds are enough.
-use mathlib.Core.Path.{_≡_, refl, sym, ap, _∙_}
+use mathlib.Core.Path.{_≡_, sym, _∙_}
 use mathlib.Core.Logic.{_⊎_, inl, inr, ⊎-elim, _↔_}
 use mathlib.Core.Bool.{Bool, true, false, cond, not, _&&_, _||_, false≢true}
 use mathlib.Core.List.{List}
-use Prim.Native.Nat.{ℕ, zero, suc, _+_, _≤_, _<_}
+use Prim.Native.Nat.{ℕ, zero, suc, _≤_, _<_}
 use native.Mathlib.Omega.{arith}
 use native.Mathlib.Decide.{le-ind}
-use native.Mathlib.Nat.{not-suc-le-zero, le-refl}
 use lib.ListN.{List·getD-eq-default}
 use Rattle.machine.specs.Range.{every, exists, total, tabulate}
 use Rattle.machine.specs.Table.{capacity}
@@ -14,7 +13,7 @@ use Rattle.machine.specs.Queue.{Packet}
 use Rattle.machine.specs.Reached.{isRoot, pointsTo, ReachedBy, begun, onward, Reached, ReachedFrom, marked, spread, marks, reachedBy, reached, reachedFrom}
 use borrow.Author.Tests.{not-false}
 use lib.Dec.{eqb}
-use Rattle.machine.proofs.Range.{tested, lt-or-ge, or-false, or-true, or-left, or-right, and-both, and-first, and-second, every-at, every-all, every-not, exists-at, exists-some, total-le, total-lt, total-ones, length-tabulate, getD-tabulate}
+use Rattle.machine.proofs.Range.{tested, lt-or-ge, or-false, or-true, or-left, or-right, and-both, and-first, and-second, every-at, every-not, exists-at, exists-some, total-lt, total-ones, length-tabulate, getD-tabulate}
 
 -- a mark of a table of tests is a test passed below its bound
 marked-tabulate : (c : ℕ) (f : ℕ → Bool) (i : ℕ) → marked (tabulate c f) i ≡ true → (i < c) × (f i ≡ true)
@@ -83,7 +82,7 @@ module _ (c : ℕ) (start : ℕ → Bool) (edge : ℕ → ℕ → Bool) where
   stable-all n s (onward {j = j} {i = i} r l e) =
       s i l (spread-edge (marks c start edge n) i j l (reached-below r) (stable-all n s r) e)
 
-  -- how many places are marked
+  -- how many cells are marked
   abbrev bit : List Bool → ℕ → ℕ
   bit ms i = cond (marked ms i) 1 0
 
@@ -109,7 +108,7 @@ module _ (c : ℕ) (start : ℕ → Bool) (edge : ℕ → ℕ → Bool) where
           total-lt c (bit ms) (bit (spread c edge ms)) (w .0) (w .1) (bit-le ms)
           (rw (o .1, not-false (marked (spread c edge ms) (w .0)) (o .0)) (omega arith))
 
-  -- n rounds have come to rest, or have marked n places
+  -- n rounds have come to rest, or have marked n cells
   grown : (n : ℕ) → ((k : ℕ) × (k ≤ n) × Stable (marks c start edge k)) ⊎ (n ≤ count (marks c start edge n))
   unfolding marks
   grown zero = inr (omega arith)

@@ -1,7 +1,7 @@
 -- S3's replay, cell by cell in the test, is the replay of all cells stage by stage.
 use mathlib.Core.Path.{_≡_, refl}
 use mathlib.Core.Logic.{_↔_}
-use mathlib.Core.Bool.{Bool, true, _&&_}
+use mathlib.Core.Bool.{true, _&&_}
 use mathlib.Core.List.{List, [], _∷_}
 use Prim.Native.Nat.{ℕ, suc, _<_}
 use lib.Dec.{leb}
@@ -11,7 +11,7 @@ use Rattle.machine.specs.Words.{ceiling}
 use Rattle.machine.specs.Queue.{Packet}
 use Rattle.machine.specs.Packets.{uses}
 use Rattle.machine.specs.Audit.{replayed, replays}
-use Rattle.machine.specs.Facts.{replayedCounts, ReplayStage, Replay}
+use Rattle.machine.specs.Facts.{replayedCounts, Replay}
 use Rattle.machine.proofs.Range.{and-both, and-first, and-second, every-at, every-all}
 
 -- the test at one cell, taken apart

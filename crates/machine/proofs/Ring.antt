@@ -1,21 +1,15 @@
 -- Laws of the ring: append and take are list operations on the waiting packets.
 use mathlib.Core.Path.{_≡_, refl, sym, ap, ap₂, _∙_}
 use mathlib.Core.List.{List, [], _∷_, _++_}
-use Prim.Native.Nat.{ℕ, zero, suc, pred, _+_, _-_, _%_, _≤_, _<_}
+use Prim.Native.Nat.{ℕ, zero, suc, _+_, _-_, _%_, _≤_, _<_}
 use native.Mathlib.Nat.{add-zero}
 use native.Mathlib.Numerals.{add-one}
 use native.Mathlib.Omega.{arith}
-use lib.ListN.{length, getD, set, length-set}
+use lib.ListN.{length, length-set}
 use lib.Seq.{getD-set-same, getD-set-other}
 use Rattle.machine.specs.declared.Queue.{Queue}
-use Rattle.machine.specs.Queue.{Packet, packet, slots, slot, putSlot, appended, taken, packetsFrom, waiting, zeroPacket}
-
--- a record of arrays of 64
-pub record Arrays (q : Queue) : Type 0 where
-  pub kinds : length (q .kinds) ≡ slots
-  pub a : length (q .a) ≡ slots
-  pub b : length (q .b) ≡ slots
-  pub c : length (q .c) ≡ slots
+pub use Rattle.machine.specs.Queue.{Arrays}
+use Rattle.machine.specs.Queue.{Packet, slots, slot, putSlot, appended, taken, packetsFrom, waiting, zeroPacket}
 
 pub arrays-put : (q : Queue) (j : ℕ) (p : Packet) (place count : ℕ) → Arrays q → Arrays (putSlot q j p place count)
 unfolding putSlot

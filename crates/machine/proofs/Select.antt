@@ -1,13 +1,13 @@
 -- Laws of the ascending list of the numbers that pass a test, and what the list of cells to free is.
 use mathlib.Core.Path.{_≡_, refl, sym, ap, ap₂, _∙_}
-use mathlib.Core.Logic.{_⊎_, inl, inr, ⊎-elim, _↔_, _≢_}
-use mathlib.Core.Bool.{Bool, true, false, cond, not, _&&_, _||_, false≢true, true≢false}
+use mathlib.Core.Logic.{⊎-elim, _↔_}
+use mathlib.Core.Bool.{Bool, true, false, cond, not, _&&_, _||_, false≢true}
 use mathlib.Core.List.{List, [], _∷_, _++_}
-use Prim.Native.Nat.{ℕ, zero, suc, _+_, _≤_, _<_}
+use Prim.Native.Nat.{ℕ, zero, suc, _+_, _<_}
 use native.Mathlib.Omega.{arith}
 use native.Mathlib.Nat.{not-suc-le-zero}
 use lib.Dec.{eqb}
-use borrow.Author.Tests.{eqb-true, eqb-false, eq-eqb, ne-eqb, not-true, not-false}
+use borrow.Author.Tests.{eqb-true, eq-eqb, not-true}
 use Rattle.machine.specs.Range.{matching, occurrences, select}
 use Rattle.machine.specs.Table.{capacity, inUse}
 use Rattle.machine.specs.Queue.{Packet}
@@ -15,8 +15,8 @@ use Rattle.machine.specs.Packets.{contains}
 use Rattle.machine.specs.Reached.{Reached, reached}
 use Rattle.machine.specs.Step.{unreached}
 use Rattle.machine.specs.Facts.{Ascending, Dead}
-use Rattle.machine.proofs.Range.{tested, not-both, below-suc, lt-or-ge, or-true, or-left, or-right, and-both, and-first, and-second, matching-same, matching-other, occurrences-append}
-use Rattle.machine.proofs.Lists.{Places}
+use Rattle.machine.proofs.Range.{tested, not-both, below-suc, or-true, or-left, or-right, and-both, and-first, and-second, matching-same, matching-other, occurrences-append}
+use Rattle.machine.proofs.Lists.{Places, none-past}
 use Rattle.machine.proofs.Reached.{reached-is}
 
 contains-append : (xs ys : List ℕ) (i : ℕ) → contains (xs ++ ys) i ≡ contains xs i || contains ys i
@@ -62,23 +62,23 @@ select-members (suc n) p i = (there (select-members n p i .0), back (select-memb
         rw contains-append (⊎-elim (λ l. or-left (contains (tail p n) i) (ih (l, w .1)))
         (λ (e : i ≡ n). or-right (contains (select n p) i) (rw e (contains-tail p n (rw e at (w .1))))) (below-suc (w .0)))
 
--- places below a bound stay below a larger one
-places-more : (n : ℕ) (is : List ℕ) → Places n is → Places (suc n) is
-places-more n [] h = tt
-places-more n (i ∷ is) h = let l = h .0 in (omega arith, places-more n is (h .1))
+-- indices below a bound stay below a larger one
+indices-more : (n : ℕ) (is : List ℕ) → Places n is → Places (suc n) is
+indices-more n [] h = tt
+indices-more n (i ∷ is) h = let l = h .0 in (omega arith, indices-more n is (h .1))
 
-places-append : (n : ℕ) (xs ys : List ℕ) → Places n xs → Places n ys → Places n (xs ++ ys)
-places-append n [] ys h k = k
-places-append n (x ∷ xs) ys h k = (h .0, places-append n xs ys (h .1) k)
+indices-append : (n : ℕ) (xs ys : List ℕ) → Places n xs → Places n ys → Places n (xs ++ ys)
+indices-append n [] ys h k = k
+indices-append n (x ∷ xs) ys h k = (h .0, indices-append n xs ys (h .1) k)
 
-places-tail : (p : ℕ → Bool) (n : ℕ) (b : Bool) → Places (suc n) (cond b (n ∷ []) [])
-places-tail p n true = (omega arith, tt)
-places-tail p n false = tt
+indices-tail : (p : ℕ → Bool) (n : ℕ) (b : Bool) → Places (suc n) (cond b (n ∷ []) [])
+indices-tail p n true = (omega arith, tt)
+indices-tail p n false = tt
 
 pub select-places : (n : ℕ) (p : ℕ → Bool) → Places n (select n p)
 unfolding select
 select-places zero p = tt
-select-places (suc n) p = places-append (suc n) (select n p) (tail p n) (places-more n (select n p) (select-places n p)) (places-tail p n (p n))
+select-places (suc n) p = indices-append (suc n) (select n p) (tail p n) (indices-more n (select n p) (select-places n p)) (indices-tail p n (p n))
 
 ascending-snoc : (n : ℕ) (is : List ℕ) (b : Bool) → Ascending is → Places n is → Ascending (is ++ cond b (n ∷ []) [])
 ascending-snoc n [] true h p = tt
@@ -93,11 +93,6 @@ select-ascending zero p = tt
 select-ascending (suc n) p = ascending-snoc n (select n p) (p n) (select-ascending n p) (select-places n p)
 
 -- each number that passes stands there once
-places-none : (n : ℕ) (is : List ℕ) → Places n is → (i : ℕ) → n ≤ i → occurrences i is ≡ 0
-unfolding occurrences
-places-none n [] h i l = refl
-places-none n (j ∷ is) h i l = let k = h .0 in omega (arith, matching-other j i 1 (omega arith), places-none n is (h .1) i l)
-
 occurrences-tail : (n i : ℕ) (b : Bool) → occurrences i (cond b (n ∷ []) []) ≡ cond b (matching n i 1) 0
 unfolding occurrences
 occurrences-tail n i true = omega arith
@@ -121,7 +116,7 @@ select-once (suc n) p i l = ⊎-elim (λ m. inside m (select-once n p i m)) last
     last : i ≡ n → occurrences i (select n p ++ tail p n) ≡ cond (p i) 1 0
     last e =
         split
-        ∙ ap₂ _+_ (places-none n (select n p) (select-places n p) i (omega arith)) (ap (λ (k : ℕ). cond (p n) k 0) (matching-same n i 1 (sym e)) ∙ ap (λ (k : ℕ). cond (p k) 1 0) (sym e))
+        ∙ ap₂ _+_ (none-past n (select n p) (select-places n p) i (omega arith)) (ap (λ (k : ℕ). cond (p n) k 0) (matching-same n i 1 (sym e)) ∙ ap (λ (k : ℕ). cond (p k) 1 0) (sym e))
         ∙ omega arith
 
 -- the cells that a step frees

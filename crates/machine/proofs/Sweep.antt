@@ -1,24 +1,21 @@
 -- What the step's sweep means: lowering the counts, then wiping the cells and joining them to the chain.
-use mathlib.Core.Path.{_≡_, refl, sym, ap, ap₂, _∙_}
-use mathlib.Core.Logic.{_⊎_, inl, inr, ⊎-elim, _≢_}
-use mathlib.Core.Bool.{Bool, true, false, cond, not, _&&_, _||_, false≢true}
-use mathlib.Core.List.{List, [], _∷_, _++_, map, append-assoc, append-nil}
+use mathlib.Core.Path.{_≡_, refl, sym, ap, _∙_}
+use mathlib.Core.Logic.{⊎-elim, _≢_}
+use mathlib.Core.Bool.{true, false, false≢true}
+use mathlib.Core.List.{List, [], _∷_, _++_, map, append-nil}
 use Prim.Native.Nat.{ℕ, zero, suc, pred, _+_, _-_, _≤_, _<_}
 use native.Mathlib.Omega.{arith}
-use native.Mathlib.Nat.{not-suc-le-zero}
 use lib.Dec.{eqb}
 use lib.ListN.{length, drop}
 use lib.Seq.{append-snoc}
-use borrow.Author.Tests.{eqb-true, eqb-false, eq-eqb, ne-eqb}
-use Rattle.machine.specs.Range.{matching, occurrences, lastOf, select}
-use Rattle.machine.specs.Table.{stride, left, right, cellCount, freeCell, capacity, firstFree, lastFree, tableLength, wordAt, putWord, putEnds, putCell, inUse}
-use Rattle.machine.specs.Queue.{Packet}
+use borrow.Author.Tests.{eqb-true, eqb-false}
+use Rattle.machine.specs.Range.{matching, occurrences, lastOf}
+use Rattle.machine.specs.Table.{stride, left, right, cellCount, freeCell, capacity, firstFree, lastFree, tableLength, wordAt, putWord, putEnds, putCell}
 use Rattle.machine.specs.Packets.{cell, minus, contains}
-use Rattle.machine.specs.Reached.{reached}
-use Rattle.machine.specs.Step.{moveCount, unreached, lowerPointers, join, joinAll, swept}
+use Rattle.machine.specs.Step.{moveCount, lowerPointers, join, joinAll, swept}
 use Rattle.machine.specs.Facts.{Linked, pointersOut, Sweep}
-use Rattle.machine.proofs.Range.{tested, not-both, occurrences-append, or-true, or-left, or-right, or-false, and-both, and-first, and-second, below-suc, matching-same, matching-other}
-use Rattle.machine.proofs.Table.{Inside, inside-putCell, cell-word, free-word, cell-other, capacity-putCell, firstFree-putCell, lastFree-putCell, past-putCell, room, word-same, word-other, length-putWord, length-putEnds, length-putCell, capacity-putWord, capacity-putEnds, firstFree-putWord, firstFree-putEnds, lastFree-putWord, lastFree-putEnds, word-putEnds, past-putWord, past-putEnds}
+use Rattle.machine.proofs.Range.{tested, not-both, occurrences-append, or-true, or-false, matching-same}
+use Rattle.machine.proofs.Table.{Inside, inside-putCell, cell-word, free-word, cell-other, capacity-putCell, past-putCell, room, word-same, word-other, length-putWord, length-putEnds, length-putCell, capacity-putWord, capacity-putEnds, firstFree-putEnds, lastFree-putEnds, word-putEnds, past-putWord, past-putEnds}
 use Rattle.machine.proofs.Moves.{length-move, capacity-move, firstFree-move, lastFree-move, past-move, word-move, count-move}
 use Rattle.machine.proofs.Lists.{contains-cons, lastOf-snoc, last-occurs, Places}
 
@@ -54,7 +51,7 @@ alike-move t w n = record {
   sameWords = λ i k l h. word-move t cell w minus n i k l h;
 }
 
--- both pointers out of the cell at place i lower a count
+-- both pointers out of the cell at index i lower a count
 lowerBoth : List ℕ → ℕ → List ℕ
 lowerBoth t i = moveCount (moveCount t cell (wordAt t i left) minus 1) cell (wordAt t i right) minus 1
 
@@ -93,7 +90,7 @@ count-lower t (i ∷ is) f j l =
     let g = count-both t i f j l in
     omega (arith, out-same t (lowerBoth t i) is (suc j) h)
 
--- the chain with one place more at its end
+-- the chain with one cell more at its end
 last-some : (y : ℕ) (ys : List ℕ) → lastOf (map suc (y ∷ ys)) ≢ 0
 unfolding lastOf
 last-some y [] e = omega arith
@@ -130,7 +127,7 @@ module _ (t t′ : List ℕ) (i : ℕ) (sameCapacity : capacity t′ ≡ capacit
       later : (j : ℕ) → occurrences j (y ∷ ys) + occurrences j (i ∷ []) ≤ 1
       later j = omega (arith, once j, occurrences-cons j x (y ∷ ys))
 
--- what joining the cell at place i to the chain does
+-- what joining the cell at index i to the chain does
 pub record Joins (t : List ℕ) (i : ℕ) (t′ : List ℕ) : Type 0 where
   pub sameLength : length t′ ≡ length t
   pub sameCapacity : capacity t′ ≡ capacity t
@@ -215,7 +212,7 @@ module _ (t : List ℕ) (i : ℕ) (f : tableLength (capacity t) ≤ length t) (l
   pub joins : Joins t i (join t i)
   joins = ⊎-elim (λ (e : eqb (lastFree t) 0 ≡ true). rw (join-none e) (joins-none e)) (λ (e : eqb (lastFree t) 0 ≡ false). rw (join-some e) (joins-some e)) (tested (eqb (lastFree t) 0))
 
-  -- the chain is one place longer
+  -- the chain is one cell longer
   pub join-linked : (is : List ℕ) → Linked t (firstFree t) is → lastOf (map suc is) ≡ lastFree t → ((j : ℕ) → occurrences j is + occurrences j (i ∷ []) ≤ 1)
       → Linked (join t i) (firstFree (join t i)) (is ++ (i ∷ [])) × (lastOf (map suc (is ++ (i ∷ []))) ≡ lastFree (join t i))
   unfolding lastOf

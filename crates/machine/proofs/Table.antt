@@ -1,7 +1,7 @@
--- Laws of the table: lengths, and what is read after a write, one law for every pair of place and word.
+-- Laws of the table: lengths, and what is read after a write, one law for every pair of index and word.
 use mathlib.Core.Path.{_≡_, refl, ap, _∙_}
-use mathlib.Core.Logic.{_⊎_, inl, inr, ⊎-elim}
-use mathlib.Core.Bool.{Bool, true, false, cond, _&&_}
+use mathlib.Core.Logic.{⊎-elim}
+use mathlib.Core.Bool.{true, false, cond, _&&_}
 use mathlib.Core.List.{List, [], _∷_}
 use Prim.Native.Nat.{ℕ, zero, suc, pred, _+_, _*_, _≤_, _<_}
 use native.Mathlib.Omega.{arith}
@@ -12,7 +12,7 @@ use Rattle.machine.specs.Table.{stride, header, left, right, rootCount, 
 use borrow.Author.Tests.{eqb-true, eqb-false, not-true}
 use Rattle.machine.proofs.Range.{tested}
 
--- the place i has its words in the table t
+-- the cell at index i has its words in the table t
 pub Inside : List ℕ → ℕ → Type 0
 Inside t i = tableLength (suc i) ≤ length t
 
@@ -52,7 +52,7 @@ pub word-other : (t : List ℕ) (i k v j m : ℕ) → k < stride → m < stride 
 unfolding wordAt putWord position
 word-other t i k v j m hk hm d = getD-set-other t (header + stride * i + k) (header + stride * j + m) v 0 (λ e. d (omega arith) (omega arith))
 
--- the read-after-write law for all pairs of place and word
+-- the read-after-write law for all pairs of index and word
 pub word-put : (t : List ℕ) (i k v j m : ℕ) → Inside t i → k < stride → m < stride → wordAt (putWord t i k v) j m ≡ cond (eqb k m && eqb i j) v (wordAt t j m)
 word-put t i k v j m f hk hm = ⊎-elim here (λ (e : eqb k m ≡ false). rw e (word-other t i k v j m hk hm (λ x y. eqb-false k m e y))) (tested (eqb k m))
   where

@@ -1,14 +1,14 @@
 -- Laws of words.
-use mathlib.Core.Path.{_≡_, refl}
-use mathlib.Core.Bool.{Bool, true, false, _&&_, _||_}
-use Prim.Native.Nat.{ℕ, zero, suc, pred, _+_, _≤_, _<_}
+use mathlib.Core.Path.{_≡_}
+use mathlib.Core.Bool.{true}
+use Prim.Native.Nat.{ℕ, suc, pred, _≤_, _<_}
 use native.Mathlib.Omega.{arith}
-use lib.Dec.{leb, eqb}
+use lib.Dec.{leb}
 use borrow.Author.Tests.{leb-true, le-leb}
 use Rattle.machine.specs.Words.{isCell}
 use Rattle.machine.proofs.Range.{and-both, and-first, and-second}
 
--- a cell of c cells is the number of a place below c
+-- a cell of c cells is the number of an index below c
 pub cell-place : (c w : ℕ) → isCell c w ≡ true → pred w < c
 unfolding isCell
 cell-place c w h =

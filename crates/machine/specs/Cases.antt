@@ -2,12 +2,12 @@
 -- machine from slips which K1 to K11 do not show. Each is proved by computation.
 use mathlib.Core.Path.{_≡_}
 use mathlib.Core.List.{List, [], _∷_, _++_}
-use Prim.Native.Nat.{ℕ, zero, suc}
+use Prim.Native.Nat.{ℕ}
 use lib.ListN.{replicate}
 use Rattle.machine.specs.declared.Queue.{Queue}
-use Rattle.machine.specs.Queue.{Packet, packet, emptyQueue, appended}
+use Rattle.machine.specs.Queue.{packet, emptyQueue, appended}
 use Rattle.machine.specs.Packets.{changes}
-use Rattle.machine.specs.Calls.{Call, fresh, row, step, audit, RowCall, car, cdr, cons, setLeft, setRight, up, down}
+use Rattle.machine.specs.Calls.{Call, fresh, row, step, audit, car, cdr, cons, setLeft, setRight, up, down}
 use Rattle.machine.specs.Calls.{Reply, value, refused, idle, applied, sound, broken, Store, store}
 use Rattle.machine.specs.Step.{applyChanges}
 use Rattle.machine.specs.Machine.{run, replies}

@@ -6,17 +6,17 @@ use lib.Dec.{leb}
 use Rattle.machine.specs.Range.{total, matching}
 use Rattle.machine.specs.Table.{left, right, rootCount, capacity, wordAt, inUse}
 use Rattle.machine.specs.Queue.{Packet}
-use Rattle.machine.specs.Packets.{Counter, root, plus, minus, waitingChange}
+use Rattle.machine.specs.Packets.{root, plus, minus, waitingChange}
 
--- the cell at place i is held n times or more
+-- the cell at index i is held n times or more
 unfoldable pub heldAtLeast : List ℕ → List Packet → ℕ → ℕ → Bool
 heldAtLeast t ps i n = leb (waitingChange root minus (suc i) ps + n) (wordAt t i rootCount + waitingChange root plus (suc i) ps)
 
--- the cell at place i is held n times or less
+-- the cell at index i is held n times or less
 unfoldable pub heldAtMost : List ℕ → List Packet → ℕ → ℕ → Bool
 heldAtMost t ps i n = leb (wordAt t i rootCount + waitingChange root plus (suc i) ps) (n + waitingChange root minus (suc i) ps)
 
--- fields of the cell at place i that contain x, if it is in use
+-- fields of the cell at index i that contain x, if it is in use
 unfoldable pub pointersFrom : List ℕ → ℕ → ℕ → ℕ
 pointersFrom t x i = cond (inUse t i) (matching (wordAt t i left) x 1 + matching (wordAt t i right) x 1) 0
 

@@ -38,19 +38,19 @@ pub record Lent (t : List ℕ) (q : Queue) (s : List ℕ) : Type 0 where
   pub shape : Shape t q
   pub scratch : scratchWords (capacity t) ≤ length s
 
--- places linked by their left words, from the number w to 0
+-- indices linked by their left words, from the number w to 0
 abbrev pub Linked : List ℕ → ℕ → List ℕ → Type 0
 Linked t w [] = w ≡ 0
 Linked t w (i ∷ is) = (w ≡ suc i) × (i < capacity t) × Linked t (wordAt t i left) is
 
--- S2: these places are the free chain, from first to last; each free cell is met once and no other; all but its left is 0
+-- S2: these indices are the free chain, from first to last; each free cell is met once and no other; all but its left is 0
 pub record Chain (t : List ℕ) (is : List ℕ) : Type 0 where
   pub linked : Linked t (firstFree t) is
   pub ends : lastOf (map suc is) ≡ lastFree t
   pub once : (i : ℕ) → i < capacity t → occurrences i is ≡ cond (isFree t i) 1 0
   pub wiped : (i k : ℕ) → i < capacity t → isFree t i ≡ true → right ≤ k → k < stride → wordAt t i k ≡ 0
 
--- the root counts of all cells, by place, after a packet is replayed
+-- the root counts of all cells, by index, after a packet is replayed
 unfoldable pub replayedCounts : Packet → (ℕ → ℕ) → ℕ → ℕ
 replayedCounts p counts i = replayed (suc i) p (counts i)
 
@@ -93,12 +93,12 @@ pub record Dead (t : List ℕ) (ps : List Packet) (dead : List ℕ) : Type 0 whe
   pub members : (i : ℕ) → (contains dead i ≡ true) ↔ ((i < capacity t) × (inUse t i ≡ true) × (Reached t ps i → ⊥))
   pub ascending : Ascending dead
 
--- how often the fields of the cells at these places contain x
+-- how often the fields of the cells at these indices contain x
 unfoldable pub pointersOut : List ℕ → List ℕ → ℕ → ℕ
 pointersOut t [] x = 0
 pointersOut t (i ∷ is) x = matching (wordAt t i left) x 1 + matching (wordAt t i right) x 1 + pointersOut t is x
 
--- The sweep: what a table t becomes when the cells at the places dead are freed.
+-- The sweep: what a table t becomes when the cells at the indices dead are freed.
 pub record Sweep (t : List ℕ) (dead : List ℕ) (t′ : List ℕ) : Type 0 where
   pub sameLength : length t′ ≡ length t
   pub sameCapacity : capacity t′ ≡ capacity t

@@ -1,13 +1,19 @@
 -- "The queue": 64 slots, the first slot's place, the count. A slot has a kind and words a, b, c.
-use mathlib.Core.Bool.{Bool, _&&_}
+use mathlib.Core.Path.{_≡_}
 use mathlib.Core.List.{List, [], _∷_}
 use Prim.Native.Nat.{ℕ, zero, suc, _+_, _-_, _%_}
-use lib.Dec.{eqb}
-use lib.ListN.{getD, set, replicate}
+use lib.ListN.{length, getD, set, replicate}
 use Rattle.machine.specs.declared.Queue.{Queue}
 
 abbrev pub slots : ℕ
 slots = 64
+
+-- the arrays of a queue have 64 words each, as the code's type says
+pub record Arrays (q : Queue) : Type 0 where
+  pub kinds : length (q .kinds) ≡ slots
+  pub a : length (q .a) ≡ slots
+  pub b : length (q .b) ≡ slots
+  pub c : length (q .c) ≡ slots
 
 -- what a slot holds
 pub record Packet : Type 0 where

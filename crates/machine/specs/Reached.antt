@@ -1,4 +1,4 @@
--- "Root", "reached" and "reached from": as the paper words them, and computed. Places stand for cells.
+-- "Root", "reached" and "reached from": as the paper words them, and computed. Indices stand for cells.
 use mathlib.Core.Path.{_≡_}
 use mathlib.Core.Bool.{Bool, true, false, _&&_, _||_}
 use mathlib.Core.List.{List}
@@ -14,7 +14,7 @@ use Rattle.machine.specs.Packets.{isNamed}
 unfoldable pub isRoot : List ℕ → List Packet → ℕ → Bool
 isRoot t ps i = ltb 0 (wordAt t i rootCount) || isNamed ps (suc i)
 
--- the cell at place i is in a field of the cell at place j
+-- the cell at index i is in a field of the cell at index j
 unfoldable pub pointsTo : List ℕ → ℕ → ℕ → Bool
 pointsTo t j i = eqb (wordAt t j left) (suc i) || eqb (wordAt t j right) (suc i)
 

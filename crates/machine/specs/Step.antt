@@ -1,5 +1,5 @@
 -- "Collector step" (source 001's figures 8 and 9, as document 01 amends them).
-use mathlib.Core.Bool.{Bool, cond, not, _&&_}
+use mathlib.Core.Bool.{cond, not, _&&_}
 use mathlib.Core.List.{List, [], _∷_, _++_}
 use Prim.Native.Nat.{ℕ, suc, pred, _+_, _-_}
 use lib.Dec.{eqb}
@@ -32,11 +32,11 @@ unfoldable pub applyChanges : List ℕ → List Change → List ℕ
 applyChanges t [] = t
 applyChanges t (h ∷ hs) = applyChanges (moveCount t (h .counter) (h .word) (h .direction) (h .amount)) hs
 
--- the places of the cells in use that are not reached, ascending
+-- the indices of the cells in use that are not reached, ascending
 unfoldable pub unreached : List ℕ → List Packet → List ℕ
 unreached t ps = select (capacity t) (λ i. inUse t i && not (reached t ps i))
 
--- each pointer out of the cells at these places lowers a cell count
+-- each pointer out of the cells at these indices lowers a cell count
 unfoldable pub lowerPointers : List ℕ → List ℕ → List ℕ
 lowerPointers t [] = t
 lowerPointers t (i ∷ is) = lowerPointers (moveCount (moveCount t cell (wordAt t i left) minus 1) cell (wordAt t i right) minus 1) is
@@ -53,7 +53,7 @@ unfoldable pub joinAll : List ℕ → List ℕ → List ℕ
 joinAll t [] = t
 joinAll t (i ∷ is) = joinAll (join t i) is
 
--- sweep: the cells at these places are freed
+-- sweep: the cells at these indices are freed
 unfoldable pub swept : List ℕ → List ℕ → List ℕ
 swept t is = joinAll (lowerPointers t is) is
 

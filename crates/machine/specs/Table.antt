@@ -1,5 +1,5 @@
 -- "The table": a lent run of words: C, first free cell, last free cell, then the cells, five words each. Only this module knows the layout.
--- A cell is told by its place, its number less one, so that places run from 0.
+-- A cell is told by its index, its number less one, so that indices run from 0.
 use mathlib.Core.Bool.{Bool, not}
 use mathlib.Core.List.{List, [], _∷_}
 use Prim.Native.Nat.{ℕ, suc, pred, _+_, _*_}
@@ -59,7 +59,7 @@ tableLength c = header + stride * c
 unfoldable pub scratchWords : ℕ → ℕ
 scratchWords c = c
 
--- where word k of the cell at place i stands
+-- where word k of the cell at index i stands
 unfoldable pub position : ℕ → ℕ → ℕ
 position i k = header + stride * i + k
 

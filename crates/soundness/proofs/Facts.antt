@@ -7,26 +7,26 @@ use Prim.Native.Nat.{ℕ, zero, suc, _≤_, _<_}
 use native.Mathlib.Omega.{arith}
 use lib.Dec.{eqb, leb}
 use lib.ListN.{length}
-use borrow.Author.Tests.{leb-true, le-leb, lt-ltb, eqb-true, eq-eqb}
+use borrow.Author.Tests.{leb-true, le-leb, eqb-true, eq-eqb}
 use Rattle.machine.specs.declared.Queue.{Queue}
 use Rattle.machine.specs.Range.{every, lastOf}
 use Rattle.machine.specs.Words.{ceiling, mostCells}
-use Rattle.machine.specs.Table.{left, right, rootCount, cellCount, state, capacity, firstFree, lastFree, tableLength, wordAt, inUse, isFree}
-use Rattle.machine.specs.Queue.{Packet, slots, waiting}
+use Rattle.machine.specs.Table.{stride, left, right, rootCount, cellCount, state, capacity, firstFree, lastFree, tableLength, wordAt, inUse, isFree}
+use Rattle.machine.specs.Queue.{Packet, waiting}
 use Rattle.machine.specs.Packets.{isNamed}
 use Rattle.machine.specs.Counts.{pointers}
 use Rattle.machine.specs.Reached.{Reached, reached}
-use Rattle.machine.specs.Questions.{inRange}
 use Rattle.machine.specs.Audit.{fieldSound, cellSound, cellsSound, otherSlotsZero, packetsLegal, replays, packetsSound, before, undoes, pointersSound, allReached, Sound}
-use Rattle.machine.specs.Facts.{Linked, Chain}
+use Rattle.machine.specs.Facts.{TableShape, QueueShape, Linked, Chain}
 use Rattle.machine.proofs.Range.{tested, or-true, or-left, or-right, and-both, and-first, and-second, not-both, every-at, every-all}
 use Rattle.machine.proofs.Table.{free-not-in-use, not-in-use-free}
-use Rattle.machine.proofs.Chain.{Places, linked-places, chain-is}
+use Rattle.machine.proofs.Lists.{Places}
+use Rattle.machine.proofs.Chain.{linked-places, chain-is}
 use Rattle.machine.proofs.Reached.{reached-is}
-use Rattle.machine.proofs.Questions.{Shape, shape-is}
-use Rattle.soundness.proofs.Views.{shown, seen, seen-same, earlier, All, Placed, all-map, StagesOf, pointers-seen}
-use Rattle.soundness.proofs.Fits.{Fit, field-fit, fit-field, LegalPacket, packets-legal, legal-packets, legal-placed, named-fit}
-use Rattle.soundness.proofs.Undoing.{before-shown, before-capacity, undoes-stages, stages-undoes}
+use Rattle.machine.proofs.Questions.{shape-is, shape-test}
+use Rattle.soundness.proofs.Views.{shown, seen, seen-same, earlier, All, WrittenBelow, all-map, StagesOf, pointers-seen}
+use Rattle.soundness.proofs.LegalPackets.{Fit, field-fit, fit-field, LegalPacket, packets-legal, legal-packets, legal-below, named-fit}
+use Rattle.soundness.proofs.Stages.{before-shown, before-capacity, undoes-stages, stages-undoes}
 
 -- what S1 to S4 say of a table with the packets ps waiting
 pub record Facts (t : List ℕ) (ps : List Packet) : Type 0 where
@@ -93,8 +93,8 @@ facts-cell t i c =
     (λ u. or-left (fieldSound t (wordAt t i left) && fieldSound t (wordAt t i right)) (not-in-use-free t i u)) (tested (inUse t i)))
 
 module _ (t : List ℕ) (q : Queue) (s : Sound t q) where
-  abbrev shape : Shape t q
-  shape = shape-is t q (s .shape)
+  abbrev shape : TableShape t
+  shape = shape-is t q (s .shape) .table
 
   abbrev slots-zero : Bool
   slots-zero = otherSlotsZero q
@@ -173,35 +173,27 @@ first-within t is h = go is (h .linked)
 pub last-within : (t : List ℕ) (is : List ℕ) → Chain t is → lastFree t ≤ capacity t
 last-within t is h = rw (← h .ends) (last-below (capacity t) is (linked-places t (firstFree t) is (h .linked)))
 
-in-range : (t : List ℕ) (q : Queue) → Shape t q → inRange t q ≡ true
-unfolding inRange
-in-range t q s =
-    and-both (and-both (and-both (and-both (and-both (and-both (le-leb 1 (capacity t) (s .some)) (le-leb (capacity t) mostCells (s .most)))
-    (le-leb (firstFree t) (capacity t) (s .first))) (le-leb (lastFree t) (capacity t) (s .last)))
-    (lt-ltb (q .place) slots (s .place))) (le-leb (q .count) slots (s .count))) (le-leb (tableLength (capacity t)) (length t) (s .room))
-
 -- what is said of the queue alone
 pub record Slots (q : Queue) : Type 0 where
-  pub place : q .place < slots
-  pub count : q .count ≤ slots
+  pub shape : QueueShape q
   pub others : otherSlotsZero q ≡ true
 
 pub slots-of : (t : List ℕ) (q : Queue) → Sound t q → Slots q
 slots-of t q s =
-    let h = shape-is t q (s .shape) in
-    record { place = h .place; count = h .count; others = sound-slots t q s }
+    record { shape = shape-is t q (s .shape) .queue; others = sound-slots t q s }
 
 pub facts-sound : (t : List ℕ) (q : Queue) → Slots q → Facts t (waiting q) → Live t (waiting q) → Sound t q
 unfolding cellsSound packetsSound pointersSound allReached
 facts-sound t q n f l = record {
-  shape = in-range t q (record {
-    some = f .some;
-    most = f .most;
-    first = first-within t (f .free) (f .chain);
-    last = last-within t (f .free) (f .chain);
-    place = n .place;
-    count = n .count;
-    room = f .room;
+  shape = shape-test t q (record {
+    table = record {
+      some = f .some;
+      most = f .most;
+      first = first-within t (f .free) (f .chain);
+      last = last-within t (f .free) (f .chain);
+      room = f .room;
+    };
+    queue = n .shape;
   });
   cells = every-all (capacity t) (cellSound t) (λ i m. facts-cell t i (record { state = f .states i m; roots = f .roots i m; cells = f .cells i m; fields = λ k. f .fields i k m }));
   chain = chain-is t .1 (f .free, f .chain);
@@ -217,12 +209,12 @@ facts-sound t q n f l = record {
 }
 
 -- all packets write to fields of cells
-pub all-placed : (t : List ℕ) (ps : List Packet) → Facts t ps → All (Placed (capacity t)) ps
-all-placed t ps f = all-map (LegalPacket t) (Placed (capacity t)) ps (legal-placed t) (f .legal)
+pub all-below : (t : List ℕ) (ps : List Packet) → Facts t ps → All (WrittenBelow (capacity t)) ps
+all-below t ps f = all-map (LegalPacket t) (WrittenBelow (capacity t)) ps (legal-below t) (f .legal)
 
 -- a cell that is not free: a root count above 0, or named by a waiting packet
 module _ (t : List ℕ) (ps : List Packet) (f : Facts t ps) where
-  pub free-zero : (i k : ℕ) → i < capacity t → inUse t i ≡ false → right ≤ k → k ≤ state → wordAt t i k ≡ 0
+  pub free-zero : (i k : ℕ) → i < capacity t → inUse t i ≡ false → right ≤ k → k < stride → wordAt t i k ≡ 0
   free-zero i k l u low high = f .chain .wiped i k l (not-in-use-free t i u) low high
 
   pub held-used : (i : ℕ) → i < capacity t → 0 < wordAt t i rootCount → inUse t i ≡ true

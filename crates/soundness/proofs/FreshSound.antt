@@ -19,11 +19,11 @@ use Rattle.machine.proofs.Range.{matching-same, matching-other, not-both}
 use Rattle.machine.proofs.Table.{not-in-use-free}
 use Rattle.machine.proofs.Fresh.{fresh-is}
 use Rattle.soundness.proofs.Views.{shown, seen, seen-none, earlier}
-use Rattle.soundness.proofs.Undoing.{shown-free}
+use Rattle.soundness.proofs.Stages.{shown-free}
 use Rattle.soundness.proofs.Facts.{Facts, Live, facts-sound}
-use Rattle.soundness.proofs.SlotsKept.{slots-empty, waiting-empty}
+use Rattle.soundness.proofs.ZeroSlots.{slots-empty, waiting-empty}
 
--- n places from i on
+-- n indices from i on
 upFrom : ℕ → ℕ → List ℕ
 upFrom i zero = []
 upFrom i (suc n) = i ∷ upFrom (suc i) n

@@ -1,35 +1,35 @@
 -- Why the store stays sound, and demand 3.
 -- what packets do by their kinds; the fields of the cells in use as a view, and its stages
-pub mod ByKind
+pub mod PacketKinds
 pub mod Views
-pub mod Fits
-pub mod Undoing
+pub mod LegalPackets
+pub mod Stages
 -- the plain facts of a sound store, from S1 to S5 and back
 pub mod Facts
-pub mod SlotsKept
+pub mod ZeroSlots
 -- fresh
 pub mod FreshSound
 -- the row calls
-pub mod Replayed
-pub mod Appending
-pub mod RowAsked
-pub mod Unwritten
-pub mod Replacing
-pub mod Making
-pub mod RowWrote
+pub mod HeldCounts
+pub mod NewPacket
+pub mod RowQuestions
+pub mod ReadUpDown
+pub mod Replace
+pub mod Cons
+pub mod RowWrites
 pub mod RowSound
 -- the step
-pub mod Taking
+pub mod OldestPacket
 pub mod Masks
-pub mod Sweeping
+pub mod FreedCells
 pub mod StepSound
 -- every call; nothing trimmed; the code's tests
-pub mod Keeps
+pub mod CallSound
 pub mod Untrimmed
 pub mod CodeTests
-pub mod Raised
+pub mod RaisedCells
 -- holds, demand 3, and that it bites
-pub mod HoldsKept
+pub mod RootsAreHolds
 pub mod Theorem
 pub mod K1
 pub mod ShortcutsBite

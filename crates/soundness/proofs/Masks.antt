@@ -1,5 +1,5 @@
 -- A view with only some cells shown. Where packets wrote to cells that are shown, masking commutes with undoing.
-use mathlib.Core.Path.{_≡_, refl, sym, ap, _∙_}
+use mathlib.Core.Path.{_≡_, refl, sym, _∙_}
 use mathlib.Core.Logic.{⊎-elim}
 use mathlib.Core.Bool.{Bool, true, false, cond, not, _&&_}
 use mathlib.Core.List.{List, [], _∷_}
@@ -11,7 +11,7 @@ use Rattle.machine.specs.Table.{left, right}
 use Rattle.machine.specs.Queue.{Packet}
 use Rattle.machine.specs.Packets.{Kind, reads, makes, replaces, raises, lowers, unknown, kindOf}
 use Rattle.machine.proofs.Range.{tested, and-second, not-both, total-add, total-same}
-use Rattle.soundness.proofs.Views.{nil-no-cell, View, putView, put-other, entries, seen, Same, put-views, undoneView, undoView, undo-same, HoldsOf, HoldsFor, holds-same, WrittenOf, Written, Placed, All, earlier, WithinView, within-same, StagesOf}
+use Rattle.soundness.proofs.Views.{nil-no-cell, View, putView, put-other, entries, seen, Same, put-views, undoneView, undoView, undo-same, HoldsOf, HoldsFor, holds-same, WrittenOf, Written, WrittenBelow, All, earlier, WithinView, within-same, StagesOf}
 
 unfoldable pub mask : (ℕ → Bool) → View → View
 mask m v i k = cond (m i) (v i k) 0
@@ -29,10 +29,6 @@ abbrev pub WritesShown : (ℕ → Bool) → Packet → Type 0
 WritesShown m p = Written (λ i k. m i ≡ true) p
 
 module _ (c : ℕ) (m : ℕ → Bool) where
-  mask-same : (v w : View) → Same c v w → Same c (mask m v) (mask m w)
-  unfolding mask
-  mask-same v w s i k l n = ap (λ (x : ℕ). cond (m i) x 0) (s i k l n)
-
   mask-put : (v : View) (i k w : ℕ) → m i ≡ true → Same c (putView (mask m v) i k w) (mask m (putView v i k w))
   unfolding mask putView
   mask-put v i k w h j n _ _ = ⊎-elim here (λ (e : eqb k n && eqb i j ≡ false). rw e) (tested (eqb k n && eqb i j))
@@ -98,16 +94,16 @@ module _ (c : ℕ) (m : ℕ → Bool) where
   pub seen-split : (v : View) (x : ℕ) → seen c v (suc x) ≡ seen c (mask m v) (suc x) + seen c (mask (λ i. not (m i)) v) (suc x)
   unfolding seen
   seen-split v x =
-      total-same c (entries v (suc x)) (λ i. entries (mask m v) (suc x) i + entries (mask (λ j. not (m j)) v) (suc x) i) (λ i _. at-place i)
+      total-same c (entries v (suc x)) (λ i. entries (mask m v) (suc x) i + entries (mask (λ j. not (m j)) v) (suc x) i) (λ i _. at-index i)
       ∙ total-add c (entries (mask m v) (suc x)) (entries (mask (λ j. not (m j)) v) (suc x))
     where
-      at-place : (i : ℕ) → entries v (suc x) i ≡ entries (mask m v) (suc x) i + entries (mask (λ j. not (m j)) v) (suc x) i
-      at-place i = unfold entries mask in ⊎-elim (λ (e : m i ≡ true). rw e (omega (arith, nil-no-cell x))) (λ (e : m i ≡ false). rw e (omega (arith, nil-no-cell x))) (tested (m i))
+      at-index : (i : ℕ) → entries v (suc x) i ≡ entries (mask m v) (suc x) i + entries (mask (λ j. not (m j)) v) (suc x) i
+      at-index i = unfold entries mask in ⊎-elim (λ (e : m i ≡ true). rw e (omega (arith, nil-no-cell x))) (λ (e : m i ≡ false). rw e (omega (arith, nil-no-cell x))) (tested (m i))
 
   mask-within : (v : View) → WithinView c v → WithinView c (mask m v)
   mask-within v h i l = omega (arith, seen-split v i, h i l)
 
-  pub mask-stages : (v : View) (ps : List Packet) → All (Placed c) ps → All (WritesShown m) ps → StagesOf c v ps → StagesOf c (mask m v) ps
+  pub mask-stages : (v : View) (ps : List Packet) → All (WrittenBelow c) ps → All (WritesShown m) ps → StagesOf c v ps → StagesOf c (mask m v) ps
   mask-stages v [] l w h = mask-within v h
   mask-stages v (p ∷ ps) l w h =
       let e = earlier v ps in

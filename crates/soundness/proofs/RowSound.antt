@@ -6,19 +6,19 @@ use Prim.Native.Nat.{ℕ, pred, _≤_}
 use native.Mathlib.Omega.{arith}
 use Rattle.machine.specs.declared.Queue.{Queue}
 use Rattle.machine.specs.Table.{left, right, wordAt, putWord}
-use Rattle.machine.specs.Queue.{Packet, packet, appended, waiting}
+use Rattle.machine.specs.Queue.{Arrays, Packet, packet, appended, waiting}
 use Rattle.machine.specs.Packets.{replaces, kindOf}
 use Rattle.machine.specs.Calls.{RowCall, car, cdr, cons, setLeft, setRight, up, down, row, Store, field, packetOf, written}
 use Rattle.machine.specs.Questions.{firstNo, wordsLegal, xIsCell, earlyRow, askFree, questions}
 use Rattle.machine.specs.Audit.{Sound}
-use Rattle.machine.proofs.Ring.{Arrays, waiting-appended}
+use Rattle.machine.proofs.Ring.{waiting-appended}
 use Rattle.soundness.proofs.Facts.{Facts, Live, slots-of, sound-facts, sound-live, facts-sound}
-use Rattle.soundness.proofs.SlotsKept.{slots-appended}
-use Rattle.soundness.proofs.RowAsked.{Passed, RowYes, row-yes}
-use Rattle.soundness.proofs.Unwritten.{unwritten-live, reading, raising, lowering}
-use Rattle.soundness.proofs.Replacing.{replacing, replacing-live}
-use Rattle.soundness.proofs.Making.{making, making-live}
-use Rattle.soundness.proofs.RowWrote.{chain-some, cons-case, first-legal, second-legal}
+use Rattle.soundness.proofs.ZeroSlots.{slots-appended}
+use Rattle.soundness.proofs.RowQuestions.{Passed, RowYes, row-yes}
+use Rattle.soundness.proofs.ReadUpDown.{unwritten-live, read-facts, up-facts, down-facts}
+use Rattle.soundness.proofs.Replace.{replace-facts, replace-live}
+use Rattle.soundness.proofs.Cons.{cons-facts, cons-live}
+use Rattle.soundness.proofs.RowWrites.{chain-some, cons-case, first-legal, second-legal}
 
 pub record Kept (u : List ℕ) (ps : List Packet) : Type 0 where
   pub facts : Facts u ps
@@ -34,8 +34,8 @@ module _ (t : List ℕ) (q : Queue) (f : Facts t (waiting q)) (live : Live t (wa
       let w = a .early .0 in
       cons-case t (f .free) (f .chain) (chain-some t (f .free) (f .chain) (a .free .0)) x y (λ u p. Passed t u ps p → Kept u (ps ++ (p ∷ [])))
       (λ new rest h b. record {
-        facts = making t ps f new rest h x y b (first-legal t x y w) (second-legal t x y w);
-        live = making-live t ps f new rest h x y b (first-legal t x y w) (second-legal t x y w) live;
+        facts = cons-facts t ps f new rest h x y b (first-legal t x y w) (second-legal t x y w);
+        live = cons-live t ps f new rest h x y b (first-legal t x y w) (second-legal t x y w) live;
       }) (a .passed)
 
   -- the field k of x
@@ -44,19 +44,19 @@ module _ (t : List ℕ) (q : Queue) (f : Facts t (waiting q)) (live : Live t (wa
       → Kept (putWord t (pred x) k y) (ps ++ (packet n y (wordAt t (pred x) k) x ∷ []))
   unfolding xIsCell
   replace-kept n k x y e l c w a = record {
-    facts = replacing t ps f n k x y e l c (second-legal t x y w) (a .held) a;
-    live = replacing-live t ps f n k x y e l c (second-legal t x y w) (a .held) live;
+    facts = replace-facts t ps f n k x y e l c (second-legal t x y w) (a .held) a;
+    live = replace-live t ps f n k x y e l c (second-legal t x y w) (a .held) live;
   }
 
   row-kept : (r : RowCall) → RowYes t q r → Kept (written t r) (ps ++ (packetOf t r ∷ []))
   unfolding earlyRow written packetOf field xIsCell kindOf
-  row-kept (car x) a = record { facts = reading t ps f x (a .early .1 .0) left (omega arith) (a .passed); live = unwritten-live t ps f (packetOf t (car x)) live }
-  row-kept (cdr x) a = record { facts = reading t ps f x (a .early .1 .0) right (omega arith) (a .passed); live = unwritten-live t ps f (packetOf t (cdr x)) live }
+  row-kept (car x) a = record { facts = read-facts t ps f x (a .early .1 .0) left (omega arith) (a .passed); live = unwritten-live t ps f (packetOf t (car x)) live }
+  row-kept (cdr x) a = record { facts = read-facts t ps f x (a .early .1 .0) right (omega arith) (a .passed); live = unwritten-live t ps f (packetOf t (cdr x)) live }
   row-kept (cons x y) a = cons-kept x y a
   row-kept (setLeft x y) a = replace-kept 3 left x y refl (omega arith) (a .early .1 .0) (a .early .0) (a .passed)
   row-kept (setRight x y) a = replace-kept 6 right x y refl (omega arith) (a .early .1 .0) (a .early .0) (a .passed)
-  row-kept (up x n) a = record { facts = raising t ps f x (a .early .1 .1 .0) n (a .early .0) (a .passed); live = unwritten-live t ps f (packetOf t (up x n)) live }
-  row-kept (down x n) a = record { facts = lowering t ps f x (a .early .1 .1 .0) n (a .early .0) (a .passed); live = unwritten-live t ps f (packetOf t (down x n)) live }
+  row-kept (up x n) a = record { facts = up-facts t ps f x (a .early .1 .1 .0) n (a .early .0) (a .passed); live = unwritten-live t ps f (packetOf t (up x n)) live }
+  row-kept (down x n) a = record { facts = down-facts t ps f x (a .early .1 .1 .0) n (a .early .0) (a .passed); live = unwritten-live t ps f (packetOf t (down x n)) live }
 
 pub row-sound : (s : Store) (r : RowCall) → Sound (s .table) (s .queue) → Arrays (s .queue) → firstNo (questions s (row r)) ≡ 0
     → Sound (written (s .table) r) (appended (s .queue) (packetOf (s .table) r))

@@ -5,17 +5,13 @@ use mathlib.Core.List.{List, [], _∷_}
 use Prim.Native.Nat.{ℕ, zero, suc}
 use native.Mathlib.Omega.{arith}
 use lib.Dec.{lit<}
-use Rattle.machine.specs.Range.{every, exists, total, select, tabulate, matching, occurrences, everyOf, lastOf}
-use Rattle.machine.specs.Words.{isNil, isCell, isAtom, isLegal}
-use Rattle.machine.specs.Table.{capacity, firstFree, lastFree, tableLength, position, wordAt, putWord, putEnds, putCell, inUse, isFree}
-use Rattle.machine.specs.Queue.{Packet, slot, putSlot, appended, taken, packetsFrom, waiting}
-use Rattle.machine.specs.Packets.{kindOf, changesOf, changes, namesOf, names, usesOf, uses, movedBy, waitingChange, contains, isNamed}
-use Rattle.machine.specs.Counts.{heldAtLeast, heldAtMost, pointersFrom, pointers}
-use Rattle.machine.specs.Reached.{isRoot, pointsTo, begun, marked, spread, marks, reachedBy, reached}
-use Rattle.machine.specs.Calls.{Call, fresh, row, step, audit, Store, field, packetOf, withoutFirst, written, valueOf, chained, freshTable}
-use Rattle.machine.specs.Step.{moveCount, applyChanges, unreached, lowerPointers, join, joinAll, swept, cleared, stepWith, stepFrom, stepped}
-use Rattle.machine.specs.Questions.{firstNo, inRange, longEnough, scratchEnough, cellsInRange, numberInRange, wordsLegal, xIsCell, heldEnough, slotEmpty, cellFree, heldWithin, pointersWithin, earlyRow, early, askFree, lateRow, late, questions}
+use Rattle.machine.specs.Queue.{Packet, waiting}
+use Rattle.machine.specs.Reached.{begun}
+use Rattle.machine.specs.Calls.{Call, fresh, row, step, audit, Store}
+use Rattle.machine.specs.Step.{stepWith, stepFrom, stepped}
+use Rattle.machine.specs.Questions.{firstNo, questions}
 use Rattle.machine.specs.Machine.{accepted, answered, machine}
+use Rattle.machine.proofs.Computes.{computes}
 use Rattle.soundness.specs.Demand3.{gains, gives, moved, holdsFrom}
 use Rattle.soundness.specs.Links.{linksOf}
 use Rattle.soundness.specs.Shortcuts.{rightParts, stepOf, acceptedOf, answeredOf, machineOf, applyHeld, without, applyEager, applyParted, reanswer, asksOneHold, ShortcutsBite}
@@ -42,7 +38,7 @@ machineOf-right s call = go (firstNo (questions s call))
     go (suc n) = refl
 
 pub shortcuts-bite : ShortcutsBite
-unfolding every exists total select tabulate matching occurrences everyOf lastOf isNil isCell isAtom isLegal capacity firstFree lastFree position wordAt putWord putEnds putCell inUse isFree slot putSlot appended taken packetsFrom waiting kindOf changesOf changes namesOf names usesOf uses movedBy waitingChange contains isNamed heldAtLeast heldAtMost pointersFrom pointers isRoot pointsTo marked spread marks reachedBy reached field packetOf withoutFirst written valueOf chained freshTable moveCount applyChanges unreached lowerPointers join joinAll swept cleared stepWith stepFrom stepped firstNo inRange longEnough scratchEnough cellsInRange numberInRange wordsLegal xIsCell heldEnough slotEmpty cellFree heldWithin pointersWithin earlyRow early askFree lateRow late questions accepted gains gives moved holdsFrom linksOf stepOf acceptedOf answeredOf machineOf applyHeld without applyEager applyParted reanswer asksOneHold
+unfolding computes gains gives moved holdsFrom linksOf stepOf acceptedOf answeredOf machineOf applyHeld without applyEager applyParted reanswer asksOneHold
 shortcuts-bite = record {
   held-at-ceiling = λ h. true≢false (h 0 0 (lit< tt) (begun (lit< tt) refl));
   named-as-dead = λ h. true≢false (h 0 0 (lit< tt) (begun (lit< tt) refl));

@@ -5,15 +5,15 @@ use Prim.Native.Nat.{ℕ, pred, _<_}
 use native.Mathlib.Omega.{arith}
 use lib.ListN.{length}
 use Rattle.machine.specs.declared.Queue.{Queue}
-use Rattle.machine.specs.Queue.{Packet, slot, taken, waiting}
+use Rattle.machine.specs.Queue.{Arrays, Packet, slot, taken, waiting}
 use Rattle.machine.specs.Packets.{changes}
 use Rattle.machine.specs.Step.{applyChanges, unreached, swept}
 use Rattle.machine.specs.Audit.{Sound}
-use Rattle.machine.proofs.Ring.{Arrays, waiting-taken, length-waiting}
+use Rattle.machine.proofs.Ring.{waiting-taken, length-waiting}
 use Rattle.soundness.proofs.Facts.{Slots, slots-of, sound-facts, facts-sound}
-use Rattle.soundness.proofs.SlotsKept.{slots-taken}
-use Rattle.soundness.proofs.Taking.{taking-facts}
-use Rattle.soundness.proofs.Sweeping.{swept-facts, swept-live}
+use Rattle.soundness.proofs.ZeroSlots.{slots-taken}
+use Rattle.soundness.proofs.OldestPacket.{applied-facts}
+use Rattle.soundness.proofs.FreedCells.{swept-facts, swept-live}
 
 -- the packets that wait behind the oldest are those of the queue without it
 module _ (q : Queue) (p : Packet) (ps : List Packet) (n : Slots q) (e : waiting q ≡ p ∷ ps) where
@@ -22,7 +22,7 @@ module _ (q : Queue) (p : Packet) (ps : List Packet) (n : Slots q) (e : waiting 
 
   pub waiting-rest : waiting (taken q) ≡ ps
   waiting-rest =
-      let w = waiting-taken q (pred (q .count)) (n .place) (n .count) (omega (arith, one-waits)) in
+      let w = waiting-taken q (pred (q .count)) (n .shape .place) (n .shape .count) (omega (arith, one-waits)) in
       tails (slot q (q .place)) p (waiting (taken q)) ps (sym w ∙ e)
     where
       tails : (a b : Packet) (xs ys : List Packet) → a ∷ xs ≡ b ∷ ys → xs ≡ ys
@@ -35,7 +35,7 @@ stepTable t p ps = swept (applyChanges t (changes p)) (unreached (applyChanges t
 pub step-sound : (t : List ℕ) (q : Queue) (p : Packet) (ps : List Packet) → Sound t q → Arrays q → waiting q ≡ p ∷ ps → Sound (stepTable t p ps) (taken q)
 step-sound t q p ps h a e =
     let n = slots-of t q h in
-    let f = taking-facts t p ps (rw e at (sound-facts t q h)) in
+    let f = applied-facts t p ps (rw e at (sound-facts t q h)) in
     let r = waiting-rest q p ps n e in
     facts-sound (stepTable t p ps) (taken q) (slots-taken q a (one-waits q p ps n e) n)
     (rw r (swept-facts (applyChanges t (changes p)) ps f)) (rw r (swept-live (applyChanges t (changes p)) ps f))

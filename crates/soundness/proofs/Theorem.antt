@@ -9,7 +9,7 @@ use lib.Dec.{ltb}
 use lib.ListN.{length}
 use borrow.Author.Tests.{le-leb, ltb-true, eqb-true, eq-eqb}
 use Rattle.machine.specs.declared.Queue.{Queue}
-use Rattle.machine.specs.Table.{rootCount, capacity, wordAt, inUse, isFree}
+use Rattle.machine.specs.Table.{rootCount, capacity, scratchWords, wordAt, inUse, isFree}
 use Rattle.machine.specs.Queue.{Packet, waiting}
 use Rattle.machine.specs.Packets.{root, plus, minus, isNamed}
 use Rattle.machine.specs.Reached.{isRoot, begun, onward, Reached, ReachedFrom}
@@ -21,13 +21,14 @@ use Rattle.machine.specs.Machine.{accepted, machine}
 use Rattle.machine.specs.Promise.{Promise}
 use Rattle.machine.proofs.Range.{tested, or-true}
 use Rattle.machine.proofs.Questions.{firstNo-zero}
+use Rattle.machine.proofs.Kept.{machine-refused, machine-accepted, gives-machine}
 use Rattle.soundness.specs.Demand3.{Link, Joined, Begun, tableAfter, queueAfter, Holds, holds, moved, answers, holdsFrom, holdsAfter, Held, NoneLost, NoneLeft, ExactWhenDone, Clauses, Demand3}
-use Rattle.soundness.proofs.ByKind.{unnamed-waiting}
+use Rattle.soundness.proofs.PacketKinds.{unnamed-waiting}
 use Rattle.soundness.proofs.Facts.{Facts, sound-facts, sound-live}
-use Rattle.soundness.proofs.Appending.{counted-used, pointed-used}
-use Rattle.soundness.proofs.Keeps.{machine-refused, machine-accepted, decided}
+use Rattle.soundness.proofs.NewPacket.{counted-used, pointed-used}
+use Rattle.soundness.proofs.CallSound.{decided}
 use Rattle.soundness.proofs.CodeTests.{pointers-counted}
-use Rattle.soundness.proofs.HoldsKept.{Agrees, fresh-agrees, row-agrees, step-agrees}
+use Rattle.soundness.proofs.RootsAreHolds.{Agrees, fresh-agrees, row-agrees, step-agrees}
 
 -- the machine's own calls carry the facts on
 refused-agrees : (t : List ℕ) (q : Queue) (h : ℕ → Holds) (call : Call) (n : ℕ) → Agrees t q h → Agrees t q (λ x. moved x call (refused n) (h x))
@@ -63,7 +64,7 @@ machine-agrees s call h a = go (firstNo (questions s call)) refl
 pub promise-agrees : (s : Store) (call : Call) (r : Reply) (after : Store) (h : ℕ → Holds) → Promise s call r after → Agrees (s .table) (s .queue) h
     → Agrees (after .table) (after .queue) (λ x. moved x call r (h x))
 promise-agrees s call r after h p a =
-    let e = p .exact (decided s call (a .whole .sound)) in
+    let e = gives-machine s call r after (p .exact (decided s call (a .whole .sound))) in
     rw (e .0, e .1) (machine-agrees s call h a)
 
 -- an accepted fresh of any store starts them
@@ -71,7 +72,7 @@ begun-agrees : (s : Store) (c w : ℕ) (r : Reply) (after : Store) → Promise s
 begun-agrees s c w r after p v = go (firstNo (questions s (fresh c))) refl
   where
     e : (r ≡ machine s (fresh c) .reply) × (after ≡ machine s (fresh c) .after)
-    e = p .exact tt
+    e = gives-machine s (fresh c) r after (p .exact tt)
 
     not-value : (n : ℕ) → refused n ≡ value w → ⊥
     not-value n d = let z : _≡_ {A = ℕ} 0 1 = cc in omega arith
@@ -88,10 +89,10 @@ links-agree t q h (l ∷ ls) a j =
     (promise-agrees (store t q (l .scratch)) (l .call) (l .reply) (l .after) h (j .0) a) (j .1)
 
 -- a store that is sound audits so
-module _ (t : List ℕ) (q : Queue) (s : List ℕ) (h : Sound t q) (l : capacity t ≤ length s) where
+module _ (t : List ℕ) (q : Queue) (s : List ℕ) (h : Sound t q) (l : scratchWords (capacity t) ≤ length s) where
   audit-asked : firstNo (questions (store t q s) audit) ≡ 0
   unfolding questions early late scratchEnough
-  audit-asked = firstNo-zero (questions (store t q s) audit) (h .shape, (le-leb (capacity t) (length s) l, tt))
+  audit-asked = firstNo-zero (questions (store t q s) audit) (h .shape, (le-leb (scratchWords (capacity t)) (length s) l, tt))
 
   rules-kept : firstNo (rules t q) ≡ 0
   unfolding rules
@@ -158,7 +159,7 @@ module _ (t : List ℕ) (q : Queue) (h : ℕ → Holds) (a : Agrees t q h) where
     none-lost = none-lost;
     none-left = none-left;
     exact-when-done = exact-when-done;
-    audits-sound = λ s r after l p. p .exact tt .0 ∙ audit-sound t q s (a .whole .sound) l;
+    audits-sound = λ s r after l p. gives-machine (store t q s) audit r after (p .exact tt) .0 ∙ audit-sound t q s (a .whole .sound) l;
   }
 
 -- every list that demand 3 covers carries the facts, a sound store among them, to its end

@@ -20,11 +20,11 @@ use Rattle.machine.proofs.Range.{tested, matching-same, matching-other}
 use Rattle.machine.proofs.Moves.{length-move, capacity-move}
 use Rattle.machine.proofs.Replay.{replays-uses, replays-bound}
 use Rattle.soundness.specs.Untrimmed.{Lowers, ByItself, AllPass, Untrimmed}
-use Rattle.soundness.proofs.ByKind.{count-change}
+use Rattle.soundness.proofs.PacketKinds.{count-change}
 use Rattle.soundness.proofs.Views.{shown, earlier, seen-undo, stages-within}
-use Rattle.soundness.proofs.Facts.{Facts, sound-facts, all-placed}
-use Rattle.soundness.proofs.Taking.{taking-capacity, taking-facts}
-use Rattle.soundness.proofs.Sweeping.{swept-enough}
+use Rattle.soundness.proofs.Facts.{Facts, sound-facts, all-below}
+use Rattle.soundness.proofs.OldestPacket.{applied-capacity, applied-facts}
+use Rattle.soundness.proofs.FreedCells.{swept-enough}
 
 -- one counter of one cell, run through the changes: each lowering is met, and P holds of each number on the way
 abbrev Runs : (ℕ → Type 0) → Counter → ℕ → List Change → ℕ → Type 0
@@ -108,14 +108,14 @@ module _ (t : List ℕ) (p : Packet) (ps : List Packet) (f : Facts t (p ∷ ps))
   cell-runs : (i : ℕ) → i < capacity t → Runs (Stands (kindOf (p .kind)) (p .a) (p .b) (suc i)) cell (suc i) (changes p) (wordAt t i cellCount)
   unfolding changes earlier
   cell-runs i l =
-      let s = seen-undo (capacity t) (earlier (shown t) ps) p i (all-placed t (p ∷ ps) f .0) (f .stages .1) in
+      let s = seen-undo (capacity t) (earlier (shown t) ps) p i (all-below t (p ∷ ps) f .0) (f .stages .1) in
       let e = f .counts i l in
       runs-cell (kindOf (p .kind)) (p .a) (p .b) (suc i) (wordAt t i cellCount) (f .cells i l) (omega arith) (omega (arith, stages-within (capacity t) (shown t) ps (f .stages .0) i l))
 
   untrimmed-facts : Untrimmed t p ps
   untrimmed-facts =
-      let g = taking-facts t p ps f in
-      let same = taking-capacity t p ps f in
+      let g = applied-facts t p ps f in
+      let same = applied-capacity t p ps f in
       record {
         passing = runs-pass p t (changes p) (f .room) root-runs cell-runs;
         roots = λ i l. g .roots i (rw same l);

@@ -15,9 +15,9 @@ use Rattle.machine.specs.Queue.{Packet}
 use Rattle.machine.specs.Packets.{Kind, reads, makes, replaces, raises, lowers, unknown, kindOf, cell, plus, minus, changesOf, changes, movedBy, waitingChange}
 use Rattle.machine.specs.Counts.{pointersFrom, pointers}
 use Rattle.machine.proofs.Range.{tested, total-same, total-at, total-zero, matching-other}
-use Rattle.soundness.proofs.ByKind.{moves}
+use Rattle.soundness.proofs.PacketKinds.{moves}
 
--- by place and field
+-- by index and field
 abbrev pub View : Type 0
 View = ℕ → ℕ → ℕ
 
@@ -27,11 +27,11 @@ shown t i k = cond (inUse t i) (wordAt t i k) 0
 unfoldable pub putView : View → ℕ → ℕ → ℕ → View
 putView v i k w j m = cond (eqb k m && eqb i j) w (v j m)
 
--- entries of the place i that are x
+-- entries of the cell at index i that are x
 unfoldable pub entries : View → ℕ → ℕ → ℕ
 entries v x i = matching (v i left) x 1 + matching (v i right) x 1
 
--- entries of the first c places that are x
+-- entries of the first c cells that are x
 unfoldable pub seen : ℕ → View → ℕ → ℕ
 seen c v x = total c (entries v x)
 
@@ -97,10 +97,10 @@ nil-no-cell x = matching-other 0 (suc x) 1 (λ e. omega arith)
 -- "Pointers to a cell" are its entries in the view
 pub pointers-seen : (t : List ℕ) (x : ℕ) → pointers t (suc x) ≡ seen (capacity t) (shown t) (suc x)
 unfolding pointers pointersFrom seen entries shown
-pointers-seen t x = total-same (capacity t) (pointersFrom t (suc x)) (entries (shown t) (suc x)) (λ i _. at-place i)
+pointers-seen t x = total-same (capacity t) (pointersFrom t (suc x)) (entries (shown t) (suc x)) (λ i _. at-index i)
   where
-    at-place : (i : ℕ) → pointersFrom t (suc x) i ≡ entries (shown t) (suc x) i
-    at-place i = ⊎-elim (λ (e : inUse t i ≡ true). rw e) (λ (e : inUse t i ≡ false). rw e (omega (arith, nil-no-cell x))) (tested (inUse t i))
+    at-index : (i : ℕ) → pointersFrom t (suc x) i ≡ entries (shown t) (suc x) i
+    at-index i = ⊎-elim (λ (e : inUse t i ≡ true). rw e) (λ (e : inUse t i ≡ false). rw e (omega (arith, nil-no-cell x))) (tested (inUse t i))
 
 -- the undoing of a packet, on views
 abbrev pub undoneView : Kind → ℕ → ℕ → ℕ → View → View
@@ -126,7 +126,7 @@ HoldsOf unknown a b c v = Unit {0}
 abbrev pub HoldsFor : Packet → View → Type 0
 HoldsFor p v = HoldsOf (kindOf (p .kind)) (p .a) (p .b) (p .c) v
 
--- what is said of the place and field that a packet's call wrote
+-- what is said of the index and field that a packet's call wrote
 abbrev pub WrittenOf : (ℕ → ℕ → Type 0) → Kind → ℕ → Type 0
 WrittenOf P reads c = Unit {0}
 WrittenOf P makes c = P (pred c) left × P (pred c) right
@@ -138,9 +138,9 @@ WrittenOf P unknown c = Unit {0}
 abbrev pub Written : (ℕ → ℕ → Type 0) → Packet → Type 0
 Written P p = WrittenOf P (kindOf (p .kind)) (p .c)
 
--- the field of a cell of c
-abbrev pub Placed : ℕ → Packet → Type 0
-Placed c p = Written (λ i k. (i < c) × (k ≤ right)) p
+-- fields of the first c cells
+abbrev pub WrittenBelow : ℕ → Packet → Type 0
+WrittenBelow c p = Written (λ i k. (i < c) × (k ≤ right)) p
 
 -- what is said of the word that a replace detached
 abbrev pub DetachedOf : (ℕ → Type 0) → Kind → ℕ → Type 0
@@ -193,7 +193,7 @@ earlier-snoc v [] p = refl
 earlier-snoc v (q ∷ ps) p = ap (undoView q) (earlier-snoc v ps p)
 
 -- undoing a packet takes its changes of cell counts back
-pub seen-undo : (c : ℕ) (v : View) (p : Packet) (x : ℕ) → Placed c p → HoldsFor p v
+pub seen-undo : (c : ℕ) (v : View) (p : Packet) (x : ℕ) → WrittenBelow c p → HoldsFor p v
     → seen c (undoView p v) (suc x) + moves cell plus p (suc x) ≡ seen c v (suc x) + moves cell minus p (suc x)
 unfolding changes movedBy changesOf
 seen-undo c v p x l h = go (kindOf (p .kind)) (p .a) (p .b) (p .c) l h
@@ -228,7 +228,7 @@ StagesOf c v (p ∷ ps) = StagesOf c v ps × HoldsFor p (earlier v ps) × Within
 pub within-same : (c : ℕ) (v w : View) → Same c v w → WithinView c v → WithinView c w
 within-same c v w s h i l = omega (arith, seen-same c v w (suc i) s, h i l)
 
-pub holds-same : (c : ℕ) (v w : View) (p : Packet) → Same c v w → Placed c p → HoldsFor p v → HoldsFor p w
+pub holds-same : (c : ℕ) (v w : View) (p : Packet) → Same c v w → WrittenBelow c p → HoldsFor p v → HoldsFor p w
 holds-same c v w p s = go (kindOf (p .kind)) (p .a) (p .b) (p .c)
   where
     go : (n : Kind) (x y z : ℕ) → WrittenOf (λ i k. (i < c) × (k ≤ right)) n z → HoldsOf n x y z v → HoldsOf n x y z w
@@ -239,7 +239,7 @@ holds-same c v w p s = go (kindOf (p .kind)) (p .a) (p .b) (p .c)
     go lowers x y z l h = tt
     go unknown x y z l h = tt
 
-pub stages-same : (c : ℕ) (v w : View) (ps : List Packet) → Same c v w → All (Placed c) ps → StagesOf c v ps → StagesOf c w ps
+pub stages-same : (c : ℕ) (v w : View) (ps : List Packet) → Same c v w → All (WrittenBelow c) ps → StagesOf c v ps → StagesOf c w ps
 stages-same c v w [] s l h = within-same c v w s h
 stages-same c v w (p ∷ ps) s l h =
     let e = earlier-same c v w ps s in (
@@ -265,7 +265,7 @@ stages-last c v [] h = h
 stages-last c v (p ∷ ps) h = stages-last c v ps (h .0)
 
 -- the pointers at the oldest stage with all waiting changes are the pointers now
-pub seen-waiting : (c : ℕ) (v : View) (ps : List Packet) (x : ℕ) → All (Placed c) ps → StagesOf c v ps
+pub seen-waiting : (c : ℕ) (v : View) (ps : List Packet) (x : ℕ) → All (WrittenBelow c) ps → StagesOf c v ps
     → seen c (earlier v ps) (suc x) + waitingChange cell plus (suc x) ps ≡ seen c v (suc x) + waitingChange cell minus (suc x) ps
 unfolding earlier waitingChange
 seen-waiting c v [] x l h = refl

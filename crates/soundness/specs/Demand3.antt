@@ -7,7 +7,7 @@ use Prim.Native.Nat.{ℕ, suc, _+_, _≤_, _<_}
 use lib.ListN.{length}
 use Rattle.machine.specs.declared.Queue.{Queue}
 use Rattle.machine.specs.Range.{matching}
-use Rattle.machine.specs.Table.{rootCount, cellCount, capacity, wordAt, inUse, isFree}
+use Rattle.machine.specs.Table.{rootCount, cellCount, capacity, scratchWords, wordAt, inUse, isFree}
 use Rattle.machine.specs.Queue.{waiting}
 use Rattle.machine.specs.Packets.{root, cell, plus, minus, waitingChange, isNamed}
 use Rattle.machine.specs.Counts.{pointers}
@@ -103,7 +103,7 @@ holdsFrom h (a ∷ rest) c = holdsFrom (moved c (a .call) (a .reply) h) rest c
 abbrev pub holdsAfter : List Link → ℕ → Holds
 holdsAfter ls c = holdsFrom (holds 0 0) (answers ls) c
 
--- The clauses, of a table t and a queue q, where h gives the holds of each cell. A cell is told by its place, its number less one.
+-- The clauses, of a table t and a queue q, where h gives the holds of each cell. A cell is told by its index, its number less one.
 module _ (t : List ℕ) (q : Queue) (h : ℕ → Holds) where
   -- A cell is held while its holds are above 0.
   abbrev pub Held : ℕ → Type 0
@@ -137,7 +137,7 @@ module _ (t : List ℕ) (q : Queue) (h : ℕ → Holds) where
 
   -- An audit with enough scratch replies sound.
   abbrev pub AuditsSound : Type 0
-  AuditsSound = (s : List ℕ) (r : Reply) (after : Store) → capacity t ≤ length s → Promise (store t q s) audit r after → r ≡ sound
+  AuditsSound = (s : List ℕ) (r : Reply) (after : Store) → scratchWords (capacity t) ≤ length s → Promise (store t q s) audit r after → r ≡ sound
 
   pub record Clauses : Type 0 where
     pub none-owed : NoneOwed

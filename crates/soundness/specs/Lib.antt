@@ -2,4 +2,5 @@
 pub mod Demand3
 pub mod Untrimmed
 pub mod Links
+pub mod Whole
 pub mod Shortcuts

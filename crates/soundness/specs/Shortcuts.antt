@@ -8,7 +8,7 @@ use lib.ListN.{length}
 use Rattle.machine.specs.declared.Queue.{Queue}
 use Rattle.machine.specs.Range.{every, select}
 use Rattle.machine.specs.Words.{isCell, ceiling}
-use Rattle.machine.specs.Table.{rootCount, cellCount, capacity, wordAt, putWord, inUse}
+use Rattle.machine.specs.Table.{rootCount, cellCount, capacity, scratchWords, wordAt, putWord, inUse}
 use Rattle.machine.specs.Queue.{Packet, taken, waiting}
 use Rattle.machine.specs.Packets.{Direction, plus, minus, Change, changes, uses}
 use Rattle.machine.specs.Counts.{heldAtLeast}
@@ -39,7 +39,7 @@ stepOf m s [] = outcome idle s
 stepOf m s (p ∷ ps) =
     let t = m .applies (s .table) p ps in
     let d = m .dead t ps in
-    outcome (applied (p .kind) (length d)) (store (m .frees t d) (taken (s .queue)) (cleared (capacity t) (s .scratch)))
+    outcome (applied (p .kind) (length d)) (store (m .frees t d) (taken (s .queue)) (cleared (scratchWords (capacity t)) (s .scratch)))
 
 unfoldable pub acceptedOf : Parts → Store → Call → Outcome
 acceptedOf m s (fresh c) = accepted s (fresh c)

@@ -10,18 +10,18 @@ use borrow.Author.Tests.{le-leb, leb-true, ltb-true, eqb-true}
 use Rattle.machine.specs.declared.Queue.{Queue}
 use Rattle.machine.specs.Words.{ceiling}
 use Rattle.machine.specs.Table.{rootCount, capacity, wordAt}
-use Rattle.machine.specs.Queue.{Packet, slots, appended, waiting}
+use Rattle.machine.specs.Queue.{Arrays, Packet, slots, appended, waiting}
 use Rattle.machine.specs.Packets.{root, plus, minus, uses, waitingChange}
 use Rattle.machine.specs.Counts.{heldAtLeast, heldAtMost}
 use Rattle.machine.specs.Calls.{RowCall, car, cdr, cons, setLeft, setRight, up, down, row, Store, packetOf, written}
 use Rattle.machine.specs.Questions.{Question, firstNo, heldEnough, slotEmpty, heldWithin, pointersWithin, earlyRow, early, askFree, lateRow, late, questions}
 use Rattle.machine.proofs.Range.{or-true, every-at, every-all}
-use Rattle.machine.proofs.Ring.{Arrays, waiting-appended}
+use Rattle.machine.proofs.Ring.{waiting-appended}
 use Rattle.machine.proofs.Undo.{within-is}
 use Rattle.machine.proofs.Questions.{Numbered, AllYes, firstNo-none, firstNo-all, firstNo-zero, early-numbered}
 use Rattle.machine.proofs.Kept.{early-yes}
 use Rattle.soundness.proofs.Views.{shown, WithinView, pointers-seen}
-use Rattle.soundness.proofs.Appending.{HeldFor}
+use Rattle.soundness.proofs.NewPacket.{HeldFor}
 
 -- questions 6, 9 and 10 about a call with the packet p that makes the table u of t
 pub record Passed (t u : List ℕ) (ps : List Packet) (p : Packet) : Type 0 where

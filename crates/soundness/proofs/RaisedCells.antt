@@ -8,21 +8,22 @@ use native.Mathlib.Omega.{arith}
 use Rattle.machine.specs.declared.Queue.{Queue}
 use Rattle.machine.specs.Words.{ceiling}
 use Rattle.machine.specs.Table.{rootCount, capacity, wordAt, inUse}
-use Rattle.machine.specs.Queue.{Packet, slots, appended, waiting}
+use Rattle.machine.specs.Queue.{Arrays, Packet, slots, appended, waiting}
 use Rattle.machine.specs.Packets.{Counter, root, cell, plus, minus, waitingChange}
 use Rattle.machine.specs.Counts.{pointers}
 use Rattle.machine.specs.Calls.{RowCall, packetOf, written}
 use Rattle.machine.specs.Step.{counterWord}
 use Rattle.machine.specs.Questions.{heldWithin, pointersWithin, earlyRow, askFree}
 use Rattle.machine.specs.Audit.{Sound}
-use Rattle.machine.proofs.Ring.{Arrays, waiting-appended}
+use Rattle.machine.proofs.Ring.{waiting-appended}
 use Rattle.machine.proofs.Undo.{within-is}
 use Rattle.machine.proofs.Questions.{AllYes}
-use Rattle.soundness.proofs.ByKind.{moves, unnamed-waiting, waiting-snoc}
+use Rattle.machine.proofs.Lists.{waiting-snoc}
+use Rattle.soundness.proofs.PacketKinds.{moves, unnamed-waiting}
 use Rattle.soundness.proofs.Facts.{Facts, sound-facts, free-unnamed}
-use Rattle.soundness.proofs.Appending.{HeldFor, Wrote, wrote-pointers}
-use Rattle.soundness.proofs.RowAsked.{most-test, most-all}
-use Rattle.soundness.proofs.RowWrote.{row-wrote, row-root}
+use Rattle.soundness.proofs.NewPacket.{HeldFor, Wrote, wrote-pointers}
+use Rattle.soundness.proofs.RowQuestions.{most-test, most-all}
+use Rattle.soundness.proofs.RowWrites.{row-wrote, row-root}
 use Rattle.soundness.proofs.CodeTests.{pointers-counted, held-most, pointers-most}
 
 -- a count with all its waiting changes and those of the packet p, against the ceiling

@@ -19,10 +19,10 @@ use Rattle.machine.specs.Audit.{replays}
 use Rattle.machine.specs.Facts.{Linked, Chain}
 use Rattle.machine.proofs.Range.{tested, or-true, or-left, or-right, matching-same}
 use Rattle.machine.proofs.Table.{free-not-in-use}
-use Rattle.soundness.proofs.ByKind.{moves, unnamed-waiting, named-snoc}
-use Rattle.soundness.proofs.Views.{View, shown, Same, same-sym, undoView, HoldsFor, all-map, all-snoc, Placed, earlier, earlier-same, earlier-snoc, seen, seen-same, seen-undo, pointers-seen, WithinView, stages-same, stages-snoc}
-use Rattle.soundness.proofs.Fits.{Fit, LegalPacket, legal-grows}
-use Rattle.soundness.proofs.Facts.{Facts, all-placed, held-used, named-used}
+use Rattle.soundness.proofs.PacketKinds.{moves, unnamed-waiting, named-snoc}
+use Rattle.soundness.proofs.Views.{View, shown, Same, same-sym, undoView, HoldsFor, all-map, all-snoc, WrittenBelow, earlier, earlier-same, earlier-snoc, seen, seen-same, seen-undo, pointers-seen, WithinView, stages-same, stages-snoc}
+use Rattle.soundness.proofs.LegalPackets.{Fit, LegalPacket, legal-grows}
+use Rattle.soundness.proofs.Facts.{Facts, all-below, held-used, named-used}
 
 -- question 6: each cell is held as often as the call with the packet p names it
 abbrev pub HeldFor : List ℕ → List Packet → Packet → Type 0
@@ -32,7 +32,7 @@ HeldFor t ps p = (i : ℕ) → i < capacity t
 -- what a call with the packet p wrote: undoing it gives the view before
 pub record Wrote (t u : List ℕ) (p : Packet) : Type 0 where
   pub sameCapacity : capacity u ≡ capacity t
-  pub placed : Placed (capacity t) p
+  pub below : WrittenBelow (capacity t) p
   pub holds : HoldsFor p (shown u)
   pub undoes : Same (capacity t) (undoView p (shown u)) (shown t)
 
@@ -44,7 +44,7 @@ wrote-pointers t u p w i =
       pointers-seen t i,
       pointers-seen u i ∙ ap (λ (c : ℕ). seen c (shown u) (suc i)) (w .sameCapacity),
       seen-same (capacity t) (undoView p (shown u)) (shown t) (suc i) (w .undoes),
-      seen-undo (capacity t) (shown u) p i (w .placed) (w .holds),
+      seen-undo (capacity t) (shown u) p i (w .below) (w .holds),
     )
 
 -- what the table u after a call with the packet p must be, on the table t before it
@@ -75,7 +75,7 @@ append-facts t u ps p f a = record {
   chain = a .chain;
   legal = all-snoc (LegalPacket u) ps p (all-map (LegalPacket t) (LegalPacket u) ps (λ r. legal-grows t u r (a .wrote .sameCapacity) (a .keeps)) (f .legal)) (a .legal);
   replay = rw (a .wrote .sameCapacity) (a .replay);
-  stages = rw (a .wrote .sameCapacity) (stages-snoc c (shown u) ps p (stages-same c (shown t) (undoView p (shown u)) ps same (all-placed t ps f) (f .stages)) (a .wrote .holds) (a .within));
+  stages = rw (a .wrote .sameCapacity) (stages-snoc c (shown u) ps p (stages-same c (shown t) (undoView p (shown u)) ps same (all-below t ps f) (f .stages)) (a .wrote .holds) (a .within));
   counts = rw (a .wrote .sameCapacity) (λ (i : ℕ) (l : i < c). a .counts i l ∙ f .counts i l
       ∙ seen-same c (earlier (shown t) ps) (earlier (undoView p (shown u)) ps) (suc i) (earlier-same c (shown t) (undoView p (shown u)) ps same)
       ∙ ap (λ (v : View). seen c v (suc i)) (sym (earlier-snoc (shown u) ps p)));
@@ -113,7 +113,7 @@ chain-same t u is c first last states words h = record {
   linked = rw first (linked-same t u c (firstFree t) is (h .linked) (λ i l m. words i left l (omega arith) (free-not-in-use t i (chain-free t is h i l m))));
   ends = h .ends ∙ sym last;
   once = rw c (λ (i : ℕ) (l : i < capacity t). h .once i l ∙ ap (λ (b : Bool). cond b 1 0) (sym (free-same t u i (states i l))));
-  wiped = rw c (λ (i k : ℕ) (l : i < capacity t) (e : isFree u i ≡ true) (low : right ≤ k) (high : k ≤ state).
+  wiped = rw c (λ (i k : ℕ) (l : i < capacity t) (e : isFree u i ≡ true) (low : right ≤ k) (high : k < stride).
       let g : isFree t i ≡ true = sym (free-same t u i (states i l)) ∙ e in
       words i k l (omega arith) (free-not-in-use t i g) ∙ h .wiped i k l g low high);
 }

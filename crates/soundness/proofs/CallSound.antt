@@ -6,36 +6,23 @@ use Prim.Native.Nat.{ℕ, zero, suc, _≤_}
 use lib.Dec.{leb}
 use lib.ListN.{length}
 use borrow.Author.Tests.{leb-true}
-use Rattle.machine.specs.declared.Queue.{Queue}
 use Rattle.machine.specs.Words.{mostCells}
 use Rattle.machine.specs.Table.{tableLength}
 use Rattle.machine.specs.Queue.{Packet, emptyQueue, waiting}
-use Rattle.machine.specs.Calls.{Call, fresh, row, step, audit, Reply, refused, Store, packetOf, freshTable}
-use Rattle.machine.specs.Step.{outcome, stepWith, stepFrom, stepped}
+use Rattle.machine.specs.Calls.{Call, fresh, row, step, audit, Reply, Store, packetOf, freshTable}
+use Rattle.machine.specs.Step.{stepWith, stepFrom, stepped}
 use Rattle.machine.specs.Questions.{firstNo, cellsInRange, longEnough, early, questions}
 use Rattle.machine.specs.Audit.{Sound, audited}
-use Rattle.machine.specs.Machine.{accepted, answered, machine}
+use Rattle.machine.specs.Machine.{accepted, machine}
 use Rattle.machine.specs.Promise.{Decided, Promise}
 use Rattle.machine.proofs.Range.{and-first, and-second}
-use Rattle.machine.proofs.Ring.{Arrays, arrays-appended, arrays-taken}
-use Rattle.machine.proofs.Kept.{early-yes}
-use Rattle.soundness.proofs.SlotsKept.{arrays-empty}
+use Rattle.machine.proofs.Ring.{arrays-appended, arrays-taken}
+use Rattle.machine.proofs.Kept.{machine-refused, machine-accepted, early-yes, gives-machine}
+use Rattle.soundness.specs.Whole.{Whole}
+use Rattle.soundness.proofs.ZeroSlots.{arrays-empty}
 use Rattle.soundness.proofs.FreshSound.{fresh-sound}
 use Rattle.soundness.proofs.RowSound.{row-sound}
 use Rattle.soundness.proofs.StepSound.{step-sound}
-
--- sound, and its queue a record of arrays of 64: what the code's type says
-pub record Whole (t : List ℕ) (q : Queue) : Type 0 where
-  pub sound : Sound t q
-  pub arrays : Arrays q
-
-pub machine-refused : (s : Store) (call : Call) (n : ℕ) → firstNo (questions s call) ≡ suc n → machine s call ≡ outcome (refused (suc n)) s
-unfolding machine answered
-machine-refused s call n h = rw h
-
-pub machine-accepted : (s : Store) (call : Call) → firstNo (questions s call) ≡ 0 → machine s call ≡ accepted s call
-unfolding machine answered
-machine-accepted s call h = rw h
 
 -- what an accepted fresh was asked
 pub record FreshYes (c : ℕ) (t : List ℕ) : Type 0 where
@@ -84,4 +71,4 @@ decided s audit h = tt
 
 -- so every call that keeps the promise leaves a sound store sound
 pub promise-whole : (s : Store) (call : Call) (r : Reply) (after : Store) → Promise s call r after → Whole (s .table) (s .queue) → Whole (after .table) (after .queue)
-promise-whole s call r after p w = rw (p .exact (decided s call (w .sound)) .1) (machine-whole s call w)
+promise-whole s call r after p w = rw (gives-machine s call r after (p .exact (decided s call (w .sound))) .1) (machine-whole s call w)

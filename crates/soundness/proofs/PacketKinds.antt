@@ -109,11 +109,6 @@ pub waiting-cons : (k : Counter) (d : Direction) (x : ℕ) (p : Packet) (ps : Li
 unfolding waitingChange
 waiting-cons k d x p ps = refl
 
-pub waiting-snoc : (k : Counter) (d : Direction) (x : ℕ) (ps : List Packet) (p : Packet) → waitingChange k d x (ps ++ (p ∷ [])) ≡ waitingChange k d x ps + moves k d p x
-unfolding waitingChange
-waiting-snoc k d x [] p = omega arith
-waiting-snoc k d x (q ∷ ps) p = omega (arith, waiting-snoc k d x ps p)
-
 pub named-snoc : (ps : List Packet) (p : Packet) (x : ℕ) → (isNamed ps x ≡ true) ⊎ (contains (names p) x ≡ true) → isNamed (ps ++ (p ∷ [])) x ≡ true
 unfolding isNamed
 named-snoc [] p x h = ⊎-elim (λ (e : false ≡ true). absurd (false≢true e)) (λ e. or-left false e) h

@@ -18,12 +18,12 @@ use Rattle.machine.specs.Facts.{Chain}
 use Rattle.machine.proofs.Range.{tested, and-first, and-second, exists-at, matching-same, matching-other}
 use Rattle.machine.proofs.Table.{word-other}
 use Rattle.machine.proofs.Questions.{AllYes}
-use Rattle.soundness.proofs.ByKind.{moves}
+use Rattle.soundness.proofs.PacketKinds.{moves}
 use Rattle.soundness.proofs.Facts.{Facts, free-zero}
-use Rattle.soundness.proofs.Appending.{HeldFor, Wrote}
-use Rattle.soundness.proofs.Unwritten.{wrote-nothing}
-use Rattle.soundness.proofs.Replacing.{replace-wrote}
-use Rattle.soundness.proofs.Making.{withCell, was-free, making-root, make-wrote}
+use Rattle.soundness.proofs.NewPacket.{HeldFor, Wrote}
+use Rattle.soundness.proofs.ReadUpDown.{wrote-nothing}
+use Rattle.soundness.proofs.Replace.{replace-wrote}
+use Rattle.soundness.proofs.Cons.{withCell, was-free, cons-roots, cons-wrote}
 
 -- where a cell is free the chain has a first cell
 pub chain-some : (t : List ℕ) (is : List ℕ) → Chain t is → cellFree t ≡ true → firstFree t ≢ 0
@@ -60,7 +60,7 @@ module _ (t : List ℕ) (ps : List Packet) (f : Facts t ps) where
   unfolding earlyRow askFree xIsCell kindOf
   row-wrote (car x) e h a = unfold written packetOf in wrote-nothing t 1 x (field t x left) 0 tt
   row-wrote (cdr x) e h a = unfold written packetOf in wrote-nothing t 1 x (field t x right) 0 tt
-  row-wrote (cons x y) e h a = cons-case t (f .free) (f .chain) (some-free (a .0)) x y (λ u p. Wrote t u p) (λ new rest c. make-wrote t ps f new rest c x y)
+  row-wrote (cons x y) e h a = cons-case t (f .free) (f .chain) (some-free (a .0)) x y (λ u p. Wrote t u p) (λ new rest c. cons-wrote t ps f new rest c x y)
   row-wrote (setLeft x y) e h a = unfold written packetOf field in replace-wrote t ps f 3 left x y refl (omega arith) (e .1 .0) (second-legal t x y (e .0)) h
   row-wrote (setRight x y) e h a = unfold written packetOf field in replace-wrote t ps f 6 right x y refl (omega arith) (e .1 .0) (second-legal t x y (e .0)) h
   row-wrote (up x n) e h a = unfold written packetOf in wrote-nothing t 4 x n 0 tt
@@ -70,7 +70,7 @@ module _ (t : List ℕ) (ps : List Packet) (f : Facts t ps) where
   pub cons-root : (x y i : ℕ) → cellFree t ≡ true → i < capacity t → wordAt (written t (cons x y)) i rootCount ≡ wordAt t i rootCount + matching (packetOf t (cons x y) .c) (suc i) 1
   cons-root x y i a l =
       cons-case t (f .free) (f .chain) (some-free a) x y (λ u p. wordAt u i rootCount ≡ wordAt t i rootCount + matching (p .c) (suc i) 1)
-      (λ new rest c. making-root t ps f new rest c x y i l)
+      (λ new rest c. cons-roots t ps f new rest c x y i l)
 
   cons-new : (x y i : ℕ) → cellFree t ≡ true → i < capacity t → packetOf t (cons x y) .c ≡ suc i → inUse t i ≡ false
   cons-new x y i a l =

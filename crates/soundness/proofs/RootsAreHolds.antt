@@ -15,21 +15,23 @@ use Rattle.machine.specs.Questions.{firstNo, askFree, questions}
 use Rattle.machine.specs.Machine.{accepted}
 use Rattle.machine.proofs.Table.{word-other}
 use Rattle.machine.proofs.Ring.{arrays-appended, arrays-taken, waiting-appended}
-use Rattle.machine.proofs.Kept.{kept}
+use Rattle.machine.proofs.Kept.{machine-accepted, kept}
 use Rattle.machine.proofs.Replay.{replays-uses}
 use Rattle.soundness.specs.Demand3.{Holds, holds, gains, gives, NoneOwed, RootsAreHolds}
-use Rattle.soundness.proofs.ByKind.{moves, waiting-cons, waiting-snoc}
+use Rattle.soundness.specs.Whole.{Whole}
+use Rattle.machine.proofs.Lists.{waiting-snoc}
+use Rattle.soundness.proofs.PacketKinds.{moves, waiting-cons}
 use Rattle.soundness.proofs.Facts.{Facts, slots-of, sound-facts}
-use Rattle.soundness.proofs.SlotsKept.{waiting-empty}
+use Rattle.soundness.proofs.ZeroSlots.{waiting-empty}
 use Rattle.soundness.proofs.FreshSound.{fresh-roots}
-use Rattle.soundness.proofs.Replayed.{replayed-sum}
-use Rattle.soundness.proofs.RowAsked.{RowYes, row-yes}
-use Rattle.soundness.proofs.RowWrote.{cons-root}
+use Rattle.soundness.proofs.HeldCounts.{replayed-sum}
+use Rattle.soundness.proofs.RowQuestions.{RowYes, row-yes}
+use Rattle.soundness.proofs.RowWrites.{cons-root}
 use Rattle.soundness.proofs.RowSound.{row-sound}
-use Rattle.soundness.proofs.Taking.{taking-capacity, taking-root, taking-facts}
-use Rattle.soundness.proofs.Sweeping.{swept-capacity, swept-root}
+use Rattle.soundness.proofs.OldestPacket.{applied-capacity, applied-root, applied-facts}
+use Rattle.soundness.proofs.FreedCells.{swept-capacity, swept-root}
 use Rattle.soundness.proofs.StepSound.{stepTable, waiting-rest, step-sound}
-use Rattle.soundness.proofs.Keeps.{Whole, fresh-yes, fresh-whole, machine-accepted}
+use Rattle.soundness.proofs.CallSound.{fresh-yes, fresh-whole}
 
 -- a call gives up no more holds than question 6 asks for
 gives-uses : (t : List ℕ) (r : RowCall) (x : ℕ) → gives r x ≤ uses (packetOf t r) x
@@ -109,8 +111,8 @@ step-agrees t q p ps h a e = record {
         rw e at (a .roots i l),
         waiting-cons root plus (suc i) p ps,
         waiting-cons root minus (suc i) p ps,
-        swept-root u ps g i (rw (taking-capacity t p ps f) l),
-        taking-root t p ps f i l,
+        swept-root u ps g i (rw (applied-capacity t p ps f) l),
+        applied-root t p ps f i l,
         replayed-sum (suc i) (wordAt t i rootCount) p (leb-true (uses p (suc i)) (wordAt t i rootCount) (replays-uses (suc i) (wordAt t i rootCount) p ps (f .replay i l))),
       ));
   owed = rw same (a .owed);
@@ -126,7 +128,7 @@ step-agrees t q p ps h a e = record {
     u = applyChanges t (changes p)
 
     g : Facts u ps
-    g = taking-facts t p ps f
+    g = applied-facts t p ps f
 
     same : capacity (stepTable t p ps) ≡ capacity t
-    same = swept-capacity u ps g ∙ taking-capacity t p ps f
+    same = swept-capacity u ps g ∙ applied-capacity t p ps f

@@ -17,13 +17,13 @@ use Rattle.machine.proofs.Range.{tested, or-true, or-left, or-right, and-both, 
 use Rattle.machine.proofs.Words.{cell-place}
 use Rattle.machine.proofs.Table.{room, word-put, word-other, length-putWord, capacity-putWord, firstFree-putWord, lastFree-putWord}
 use Rattle.soundness.proofs.Views.{shown, Same, putView, put-same}
-use Rattle.soundness.proofs.Fits.{Fit, fit-grows, LegalPacket, WrittenIn, second-of}
-use Rattle.soundness.proofs.Undoing.{shown-used, used-put, shown-put}
+use Rattle.soundness.proofs.LegalPackets.{Fit, fit-grows, LegalPacket, WrittenIn, second-of}
+use Rattle.soundness.proofs.Stages.{shown-used, used-put, shown-put}
 use Rattle.soundness.proofs.Facts.{Facts, Live}
-use Rattle.soundness.proofs.Replayed.{replay-append}
-use Rattle.soundness.proofs.Appending.{HeldFor, Wrote, append-facts, chain-same, operand-fit, reached-grows, root-stays, root-named}
-use Rattle.soundness.proofs.RowAsked.{Passed}
-use Rattle.soundness.proofs.Unwritten.{cell-legal, cell-used, names-three}
+use Rattle.soundness.proofs.HeldCounts.{replay-append}
+use Rattle.soundness.proofs.NewPacket.{HeldFor, Wrote, append-facts, chain-same, operand-fit, reached-grows, root-stays, root-named}
+use Rattle.soundness.proofs.RowQuestions.{Passed}
+use Rattle.soundness.proofs.ReadUpDown.{cell-legal, cell-used, names-three}
 
 -- a pointer is a field that holds a cell's number
 pub points-by : (t : List ℕ) (j i k : ℕ) → k ≤ right → wordAt t j k ≡ suc i → pointsTo t j i ≡ true
@@ -124,10 +124,10 @@ module _ (t : List ℕ) (ps : List Packet) (f : Facts t ps) (n k x y : ℕ) (kin
     same-root i = other i rootCount (omega arith) (omega arith)
 
     pub replace-wrote : Wrote t u replace
-    replace-wrote = record { sameCapacity = same-capacity; placed = rw kind (below, low); holds = rw kind holds-y; undoes = rw kind undone-field }
+    replace-wrote = record { sameCapacity = same-capacity; below = rw kind (below, low); holds = rw kind holds-y; undoes = rw kind undone-field }
 
-    pub replacing : Passed t u ps replace → Facts u (ps ++ (replace ∷ []))
-    replacing a = append-facts t u ps replace f (record {
+    pub replace-facts : Passed t u ps replace → Facts u (ps ++ (replace ∷ []))
+    replace-facts a = append-facts t u ps replace f (record {
       sameLength = length-putWord t (pred x) k y;
       wrote = replace-wrote;
       states = λ i l. rw (other i state (omega arith) (omega arith)) (f .states i l);
@@ -163,7 +163,7 @@ module _ (t : List ℕ) (ps : List Packet) (f : Facts t ps) (n k x y : ℕ) (kin
                 let v = w .1 in
                 word-put t (pred x) k y j (w .0) (room t (capacity t) (pred x) (f .room) below) (omega arith) (omega arith) ∙ rw c
 
-    pub replacing-live : Live t ps → Live u (ps ++ (replace ∷ []))
-    replacing-live live i l e =
+    pub replace-live : Live t ps → Live u (ps ++ (replace ∷ []))
+    replace-live live i l e =
         reached-grows t u ps (ps ++ (replace ∷ [])) same-capacity (λ j _. root-stays t u ps replace j (λ h. rw (same-root j) h)) edges
         (live i (rw same-capacity at l) (sym (same-use i) ∙ e))

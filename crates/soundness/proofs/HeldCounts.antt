@@ -12,7 +12,8 @@ use Rattle.machine.specs.Packets.{root, plus, minus, uses, waitingChange, isNam
 use Rattle.machine.specs.Audit.{replayed, replays}
 use Rattle.machine.proofs.Range.{and-both}
 use Rattle.machine.proofs.Replay.{replays-uses, replays-bound, replays-rest}
-use Rattle.soundness.proofs.ByKind.{moves, lowers-uses, unnamed, unnamed-first, unnamed-rest, waiting-snoc}
+use Rattle.machine.proofs.Lists.{waiting-snoc}
+use Rattle.soundness.proofs.PacketKinds.{moves, lowers-uses, unnamed, unnamed-first, unnamed-rest}
 
 -- what a root count comes to
 unfoldable pub final : ℕ → ℕ → List Packet → ℕ

@@ -7,15 +7,15 @@ use Prim.Native.Nat.{ℕ, suc, pred, _≤_, _<_}
 use native.Mathlib.Omega.{arith}
 use lib.Dec.{eqb, leb}
 use borrow.Author.Tests.{eqb-true, eq-eqb, leb-true}
-use Rattle.machine.specs.Range.{everyOf}
 use Rattle.machine.specs.Words.{isNil, isCell, isAtom, isLegal, mostCells}
 use Rattle.machine.specs.Table.{left, right, capacity, inUse}
 use Rattle.machine.specs.Queue.{Packet}
 use Rattle.machine.specs.Packets.{Kind, reads, makes, replaces, raises, lowers, unknown, kindOf, namesOf, names, contains, isNamed}
 use Rattle.machine.specs.Audit.{fieldSound, wordsOfKind, packetLegal, namesInUse, packetsLegal}
 use Rattle.machine.proofs.Range.{or-true, or-left, or-right, and-both, and-first, and-second}
+use Rattle.machine.proofs.Lists.{everyOf-at, everyOf-all}
 use Rattle.machine.proofs.Words.{cell-place, cell-number}
-use Rattle.soundness.proofs.Views.{All, Written, WrittenOf, Placed, Detached, DetachedOf}
+use Rattle.soundness.proofs.Views.{All, Written, WrittenOf, WrittenBelow, Detached, DetachedOf}
 
 -- nil, an atom, or a cell in use
 pub record Fit (t : List ℕ) (w : ℕ) : Type 0 where
@@ -62,18 +62,6 @@ fit-field t w f =
 pub fit-grows : (t u : List ℕ) (w : ℕ) → capacity u ≡ capacity t → ((i : ℕ) → i < capacity t → inUse t i ≡ true → inUse u i ≡ true) → Fit t w → Fit u w
 fit-grows t u w c g f = record { legal = rw c (f .legal); used = λ i l e. g i (rw c at l) (f .used i (rw c at l) e) }
 
--- what a test on every word of a list says of each
-everyOf-at : (p : ℕ → Bool) (ws : List ℕ) (w : ℕ) → everyOf ws p ≡ true → contains ws w ≡ true → p w ≡ true
-unfolding everyOf contains
-everyOf-at p [] w h c = absurd (false≢true c)
-everyOf-at p (v ∷ vs) w h c =
-    ⊎-elim (λ e. rw (eqb-true v w e) at (and-first (p v) (everyOf vs p) h)) (λ e. everyOf-at p vs w (and-second (p v) (everyOf vs p) h) e) (or-true (eqb v w) (contains vs w) c)
-
-everyOf-all : (p : ℕ → Bool) (ws : List ℕ) → ((w : ℕ) → contains ws w ≡ true → p w ≡ true) → everyOf ws p ≡ true
-unfolding everyOf contains
-everyOf-all p [] f = refl
-everyOf-all p (v ∷ vs) f = and-both (f v (or-left (contains vs v) (eq-eqb v v refl))) (everyOf-all p vs (λ w c. f w (or-right (eqb v w) c)))
-
 -- S3's demands on one packet
 pub record LegalPacket (t : List ℕ) (p : Packet) : Type 0 where
   pub words : packetLegal t p ≡ true
@@ -86,7 +74,7 @@ packets-legal t (p ∷ ps) m h =
     let first = and-first (packetLegal t p && namesInUse t p) (packetsLegal t ps) h in (
       record {
         words = and-first (packetLegal t p) (namesInUse t p) first;
-        names = λ w c. field-fit t w m (everyOf-at (fieldSound t) (names p) w (and-second (packetLegal t p) (namesInUse t p) first) c);
+        names = λ w c. field-fit t w m (everyOf-at (names p) (fieldSound t) w (and-second (packetLegal t p) (namesInUse t p) first) c);
       },
       packets-legal t ps m (and-second (packetLegal t p && namesInUse t p) (packetsLegal t ps) h),
     )
@@ -95,7 +83,7 @@ pub legal-packets : (t : List ℕ) (ps : List Packet) → All (LegalPacket t) ps
 unfolding packetsLegal namesInUse
 legal-packets t [] h = refl
 legal-packets t (p ∷ ps) h =
-    and-both (and-both (h .0 .words) (everyOf-all (fieldSound t) (names p) (λ w c. fit-field t w (h .0 .names w c)))) (legal-packets t ps (h .1))
+    and-both (and-both (h .0 .words) (everyOf-all (names p) (fieldSound t) (λ w c. fit-field t w (h .0 .names w c)))) (legal-packets t ps (h .1))
 
 pub legal-grows : (t u : List ℕ) (p : Packet) → capacity u ≡ capacity t → ((i : ℕ) → i < capacity t → inUse t i ≡ true → inUse u i ≡ true) → LegalPacket t p → LegalPacket u p
 unfolding packetLegal
@@ -168,8 +156,8 @@ written-map P Q p f = go (kindOf (p .kind)) (p .c)
     go lowers c h = tt
     go unknown c h = tt
 
-pub legal-placed : (t : List ℕ) (p : Packet) → LegalPacket t p → Placed (capacity t) p
-legal-placed t p h = written-map (WrittenIn t) (λ i k. (i < capacity t) × (k ≤ right)) p (λ i k w. (w .below, w .field)) (legal-written t p h)
+pub legal-below : (t : List ℕ) (p : Packet) → LegalPacket t p → WrittenBelow (capacity t) p
+legal-below t p h = written-map (WrittenIn t) (λ i k. (i < capacity t) × (k ≤ right)) p (λ i k w. (w .below, w .field)) (legal-written t p h)
 
 pub legal-detached : (t : List ℕ) (p : Packet) → LegalPacket t p → Detached (Fit t) p
 unfolding names namesOf

@@ -18,7 +18,7 @@ use Rattle.machine.proofs.Range.{tested, and-both, and-first, and-second}
 use Rattle.machine.proofs.Table.{room, word-put, word-other, length-putWord, capacity-putWord}
 use Rattle.machine.proofs.Undo.{within-is, undoes-rest, undoes-holds, undoes-within}
 use Rattle.soundness.proofs.Views.{View, shown, putView, Same, put-views, undoneView, undoView, HoldsOf, HoldsFor, WrittenOf, Written, All, earlier, WithinView, StagesOf, within-same, pointers-seen, seen}
-use Rattle.soundness.proofs.Fits.{LegalPacket, WrittenIn, legal-written}
+use Rattle.soundness.proofs.LegalPackets.{LegalPacket, WrittenIn, legal-written}
 
 pub shown-used : (t : List ℕ) (i k : ℕ) → inUse t i ≡ true → shown t i k ≡ wordAt t i k
 unfolding shown

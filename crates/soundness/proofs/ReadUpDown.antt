@@ -16,11 +16,11 @@ use Rattle.machine.specs.Audit.{wordsOfKind, packetLegal}
 use Rattle.machine.proofs.Range.{or-true, or-left, or-right, and-both, and-first, matching-same}
 use Rattle.machine.proofs.Words.{cell-place, cell-number}
 use Rattle.soundness.proofs.Views.{shown, Same, undoneView, HoldsOf, WrittenOf}
-use Rattle.soundness.proofs.Fits.{Fit, fit-nil, LegalPacket}
+use Rattle.soundness.proofs.LegalPackets.{Fit, fit-nil, LegalPacket}
 use Rattle.soundness.proofs.Facts.{Facts, Live}
-use Rattle.soundness.proofs.Replayed.{replay-append}
-use Rattle.soundness.proofs.Appending.{Wrote, append-facts, operand-fit, reached-grows, root-stays}
-use Rattle.soundness.proofs.RowAsked.{Passed}
+use Rattle.soundness.proofs.HeldCounts.{replay-append}
+use Rattle.soundness.proofs.NewPacket.{Wrote, append-facts, operand-fit, reached-grows, root-stays}
+use Rattle.soundness.proofs.RowQuestions.{Passed}
 
 pub cell-legal : (c w : ℕ) → isCell c w ≡ true → isLegal c w ≡ true
 unfolding isLegal
@@ -40,7 +40,7 @@ Idle lowers = Unit {0}
 Idle unknown = Unit {0}
 
 pub wrote-nothing : (t : List ℕ) (n a b c : ℕ) → Idle (kindOf n) → Wrote t t (packet n a b c)
-wrote-nothing t n a b c h = let w = go (kindOf n) h in record { sameCapacity = refl; placed = w .0; holds = w .1; undoes = w .2 }
+wrote-nothing t n a b c h = let w = go (kindOf n) h in record { sameCapacity = refl; below = w .0; holds = w .1; undoes = w .2 }
   where
     go : (k : Kind) → Idle k → WrittenOf (λ i m. (i < capacity t) × (m ≤ right)) k c × HoldsOf k a b c (shown t) × Same (capacity t) (undoneView k a b c (shown t)) (shown t)
     go reads h = (tt, tt, λ i m _ _. refl)
@@ -64,8 +64,8 @@ names-three P a b c ha hb hc w h =
 
 module _ (t : List ℕ) (ps : List Packet) (f : Facts t ps) where
   -- a packet whose call wrote nothing joins
-  unwritten : (p : Packet) → Passed t t ps p → LegalPacket t p → Wrote t t p → Facts t (ps ++ (p ∷ []))
-  unwritten p y l w = append-facts t t ps p f (record {
+  unwritten-facts : (p : Packet) → Passed t t ps p → LegalPacket t p → Wrote t t p → Facts t (ps ++ (p ∷ []))
+  unwritten-facts p y l w = append-facts t t ps p f (record {
     sameLength = refl;
     wrote = w;
     states = f .states;
@@ -96,29 +96,29 @@ module _ (t : List ℕ) (ps : List Packet) (f : Facts t ps) where
       word-fit : Fit t (wordAt t (pred x) k)
       word-fit = f .fields (pred x) k (cell-place (capacity t) x cell) low (cell-used t x cell reader-fit)
 
-      pub reading : Facts t (ps ++ (read ∷ []))
+      pub read-facts : Facts t (ps ++ (read ∷ []))
       unfolding packetLegal wordsOfKind names namesOf kindOf
-      reading =
-          unwritten read y
+      read-facts =
+          unwritten-facts read y
           (record { words = and-both (and-both cell (word-fit .legal)) refl; names = names-three (Fit t) x (wordAt t (pred x) k) 0 reader-fit word-fit (fit-nil t) })
           (wrote-nothing t 1 x (wordAt t (pred x) k) 0 tt)
 
     -- more and fewer holds of x
     module _ (n : ℕ) (number : numberInRange n ≡ true) where
-      pub raising : Passed t t ps (packet 4 x n 0) → Facts t (ps ++ (packet 4 x n 0 ∷ []))
+      pub up-facts : Passed t t ps (packet 4 x n 0) → Facts t (ps ++ (packet 4 x n 0 ∷ []))
       unfolding packetLegal wordsOfKind names namesOf uses usesOf kindOf
-      raising y =
-          unwritten (packet 4 x n 0) y
+      up-facts y =
+          unwritten-facts (packet 4 x n 0) y
           (record {
             words = and-both (and-both cell number) refl;
             names = names-one (Fit t) x (operand-fit t ps f (packet 4 x n 0) x (y .held) (cell-legal (capacity t) x cell) (λ i e. omega (arith, matching-same x (suc i) 1 e)));
           })
           (wrote-nothing t 4 x n 0 tt)
 
-      pub lowering : Passed t t ps (packet 5 x n 0) → Facts t (ps ++ (packet 5 x n 0 ∷ []))
+      pub down-facts : Passed t t ps (packet 5 x n 0) → Facts t (ps ++ (packet 5 x n 0 ∷ []))
       unfolding packetLegal wordsOfKind names namesOf uses usesOf kindOf numberInRange
-      lowering y =
-          unwritten (packet 5 x n 0) y
+      down-facts y =
+          unwritten-facts (packet 5 x n 0) y
           (record {
             words = and-both (and-both cell number) refl;
             names = names-one (Fit t) x (operand-fit t ps f (packet 5 x n 0) x (y .held) (cell-legal (capacity t) x cell)

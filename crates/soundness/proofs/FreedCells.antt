@@ -16,30 +16,20 @@ use Rattle.machine.specs.Reached.{isRoot, pointsTo, begun, onward, Reached, rea
 use Rattle.machine.specs.Step.{unreached, swept}
 use Rattle.machine.specs.Audit.{packetLegal}
 use Rattle.machine.specs.Facts.{Linked, Chain, pointersOut, Sweep}
-use Rattle.machine.proofs.Range.{tested, lt-or-ge, not-both, or-left, or-right, occurrences-append, matching-same, matching-other, total-same}
+use Rattle.machine.proofs.Range.{tested, lt-or-ge, not-both, or-left, or-right, occurrences-append, total-same}
 use Rattle.machine.proofs.Table.{free-not-in-use}
-use Rattle.machine.proofs.Chain.{Places, linked-places}
+use Rattle.machine.proofs.Lists.{at-most-one, last-occurs, Places, none-past}
+use Rattle.machine.proofs.Chain.{linked-places}
 use Rattle.machine.proofs.Reached.{reached-is}
 use Rattle.machine.proofs.Select.{select-places, select-once, dead-is}
 use Rattle.machine.proofs.Sweep.{sweeps}
 use Rattle.soundness.proofs.Views.{nil-no-cell, View, shown, entries, seen, seen-same, seen-none, Same, All, all-map, Detached, earlier, earlier-same, earlier-entries, stages-same}
-use Rattle.soundness.proofs.Fits.{Fit, fit-nil, LegalPacket, WrittenIn, legal-written, legal-detached, written-map}
-use Rattle.soundness.proofs.Undoing.{shown-used, shown-free}
-use Rattle.soundness.proofs.Facts.{Facts, Live, last-within, free-zero, all-placed}
-use Rattle.soundness.proofs.Appending.{chain-free, reached-used, reached-grows}
-use Rattle.soundness.proofs.Replacing.{points-by, points-cases}
+use Rattle.soundness.proofs.LegalPackets.{Fit, fit-nil, LegalPacket, WrittenIn, legal-written, legal-detached, written-map}
+use Rattle.soundness.proofs.Stages.{shown-used, shown-free}
+use Rattle.soundness.proofs.Facts.{Facts, Live, last-within, free-zero, all-below}
+use Rattle.soundness.proofs.NewPacket.{chain-free, reached-used, reached-grows}
+use Rattle.soundness.proofs.Replace.{points-by, points-cases}
 use Rattle.soundness.proofs.Masks.{mask, masked, unmasked, WritesShown, mask-earlier, unwritten-earlier, seen-split, mask-stages}
-
-last-occurs : (is : List ℕ) (z : ℕ) → lastOf (map suc is) ≡ suc z → 1 ≤ occurrences z is
-unfolding lastOf occurrences
-last-occurs [] z e = absurd (omega arith)
-last-occurs (y ∷ []) z e = omega (arith, matching-same y z 1 (omega arith))
-last-occurs (y ∷ x ∷ ys) z e = omega (arith, last-occurs (x ∷ ys) z e)
-
-none-past : (c : ℕ) (is : List ℕ) → Places c is → (i : ℕ) → c ≤ i → occurrences i is ≡ 0
-unfolding occurrences
-none-past c [] h i l = refl
-none-past c (j ∷ is) h i l = let k = h .0 in omega (arith, matching-other j i 1 (omega arith), none-past c is (h .1) i l)
 
 -- the pointers out of the cells that pass a test, as a sum
 out-append : (t : List ℕ) (is js : List ℕ) (x : ℕ) → pointersOut t (is ++ js) x ≡ pointersOut t is x + pointersOut t js x
@@ -75,12 +65,12 @@ module _ (t : List ℕ) (ps : List Packet) (f : Facts t ps) where
   abbrev u : List ℕ
   u = swept t dead
 
-  dead-places : Places c dead
+  dead-below : Places c dead
   unfolding unreached
-  dead-places = select-places c doomed
+  dead-below = select-places c doomed
 
   sweep : Sweep t dead u
-  sweep = sweeps t dead (f .room) dead-places (last-within t (f .free) (f .chain))
+  sweep = sweeps t dead (f .room) dead-below (last-within t (f .free) (f .chain))
 
   live-reached : (i : ℕ) → live i ≡ true → Reached t ps i
   live-reached i h = reached-is t ps i .0 h
@@ -188,16 +178,12 @@ module _ (t : List ℕ) (ps : List Packet) (f : Facts t ps) where
       (λ i h e l. let a = f .chain .once i l in let b = dead-once i l in rw (swept-use i l, h) (omega (arith, rw e at a, rw (e, h) at b)))
       (λ i h e l. let a = f .chain .once i l in let b = dead-once i l in rw (swept-use i l, h) (omega (arith, rw e at a, rw e at b)))
 
-  at-most-one : (b : Bool) → cond b 1 0 ≤ 1
-  at-most-one true = omega arith
-  at-most-one false = omega arith
-
   linked-all : Linked u (firstFree u) (f .free ++ dead) × (lastOf (map suc (f .free ++ dead)) ≡ lastFree u)
   linked-all = sweep .joined (f .free) (f .chain .linked) (f .chain .ends) (λ i. ⊎-elim (λ l. rw (both-once i l) (at-most-one (isFree u i)))
-      (λ l. omega (arith, none-past c (f .free) (linked-places t (firstFree t) (f .free) (f .chain .linked)) i l, none-past c dead dead-places i l)) (lt-or-ge i c))
+      (λ l. omega (arith, none-past c (f .free) (linked-places t (firstFree t) (f .free) (f .chain .linked)) i l, none-past c dead dead-below i l)) (lt-or-ge i c))
 
   -- a cell that is not reached ends with all but its left 0
-  wiped : (i k : ℕ) → i < c → live i ≡ false → right ≤ k → k ≤ state → wordAt u i k ≡ 0
+  wiped : (i k : ℕ) → i < c → live i ≡ false → right ≤ k → k < stride → wordAt u i k ≡ 0
   wiped i k l h low high = ⊎-elim (λ e. sweep .freed i k (is-dead i l e h) low high) free (tested (inUse t i))
     where
       free : inUse t i ≡ false → wordAt u i k ≡ 0
@@ -232,7 +218,7 @@ module _ (t : List ℕ) (ps : List Packet) (f : Facts t ps) where
   -- the pointers out of dead cells are what the oldest stage loses
   lost : (x : ℕ) → seen c (mask (λ i. not (live i)) (earlier (shown t) ps)) (suc x) ≡ pointersOut t dead (suc x)
   unfolding seen unreached
-  lost x = total-same c (entries (mask (λ i. not (live i)) e) (suc x)) (λ i. cond (doomed i) (fieldsAt t (suc x) i) 0) at-place ∙ sym (out-select t c doomed (suc x))
+  lost x = total-same c (entries (mask (λ i. not (live i)) e) (suc x)) (λ i. cond (doomed i) (fieldsAt t (suc x) i) 0) at-index ∙ sym (out-select t c doomed (suc x))
     where
       e : View
       e = earlier (shown t) ps
@@ -240,8 +226,8 @@ module _ (t : List ℕ) (ps : List Packet) (f : Facts t ps) where
       untouched : (i k : ℕ) → live i ≡ false → e i k ≡ shown t i k
       untouched = unwritten-earlier c live (shown t) ps writes-live
 
-      at-place : (i : ℕ) → i < c → entries (mask (λ i. not (live i)) e) (suc x) i ≡ cond (doomed i) (fieldsAt t (suc x) i) 0
-      at-place = each-sort (λ i. i < c → entries (mask (λ i. not (live i)) e) (suc x) i ≡ cond (doomed i) (fieldsAt t (suc x) i) 0)
+      at-index : (i : ℕ) → i < c → entries (mask (λ i. not (live i)) e) (suc x) i ≡ cond (doomed i) (fieldsAt t (suc x) i) 0
+      at-index = each-sort (λ i. i < c → entries (mask (λ i. not (live i)) e) (suc x) i ≡ cond (doomed i) (fieldsAt t (suc x) i) 0)
           (λ i h _. unfold entries mask in rw (h, live-used i h) (omega (arith, nil-no-cell x)))
           (λ i h d _. unfold entries mask fieldsAt in rw (h, d, untouched i left h, untouched i right h, shown-used t i left d, shown-used t i right d))
           (λ i h d _. unfold entries mask in rw (h, d, untouched i left h, untouched i right h, shown-free t i left d, shown-free t i right d) (omega (arith, nil-no-cell x)))
@@ -288,8 +274,8 @@ module _ (t : List ℕ) (ps : List Packet) (f : Facts t ps) where
     chain = chain-after;
     legal = legal-after;
     replay = rw swept-capacity (λ (i : ℕ) (l : i < c). rw (swept-root i l) (f .replay i l));
-    stages = rw swept-capacity (stages-same c (mask live (shown t)) (shown u) ps (λ i k l m. sym (shows i k l m)) (all-placed t ps f)
-        (mask-stages c live (shown t) ps (all-placed t ps f) writes-live (f .stages)));
+    stages = rw swept-capacity (stages-same c (mask live (shown t)) (shown u) ps (λ i k l m. sym (shows i k l m)) (all-below t ps f)
+        (mask-stages c live (shown t) ps (all-below t ps f) writes-live (f .stages)));
     counts = rw swept-capacity counts-after;
   }
 

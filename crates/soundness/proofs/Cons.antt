@@ -6,11 +6,11 @@ use mathlib.Core.List.{List, [], _∷_, _++_, map}
 use Prim.Native.Nat.{ℕ, zero, suc, pred, _+_, _≤_, _<_}
 use native.Mathlib.Omega.{arith}
 use lib.Dec.{eqb, ltb, eqb·suc-zero}
-use lib.ListN.{length}
+use lib.ListN.{length, getD}
 use borrow.Author.Tests.{eqb-true, eqb-false, eq-eqb, lt-ltb}
 use Rattle.machine.specs.Range.{matching, occurrences, lastOf}
-use Rattle.machine.specs.Words.{isLegal}
-use Rattle.machine.specs.Table.{stride, left, right, rootCount, cellCount, state, capacity, firstFree, lastFree, tableLength, wordAt, putEnds, putCell, inUse, isFree}
+use Rattle.machine.specs.Words.{isLegal, ceiling}
+use Rattle.machine.specs.Table.{stride, left, right, rootCount, cellCount, state, capacity, firstFree, lastFree, newCell, wordAt, putEnds, putCell, inUse, isFree}
 use Rattle.machine.specs.Queue.{Packet, packet}
 use Rattle.machine.specs.Packets.{kindOf, namesOf, names, usesOf, uses, isNamed}
 use Rattle.machine.specs.Reached.{isRoot, pointsTo, begun, Reached}
@@ -18,24 +18,24 @@ use Rattle.machine.specs.Audit.{replays, wordsOfKind, packetLegal}
 use Rattle.machine.specs.Facts.{Linked, Chain}
 use Rattle.machine.proofs.Range.{tested, or-left, and-both, not-both, matching-same, matching-other}
 use Rattle.machine.proofs.Words.{place-cell}
-use Rattle.machine.proofs.Table.{Inside, room, cell-left, cell-right, cell-root, cell-cell, cell-state, cell-other, word-putEnds, length-putEnds, length-putCell, capacity-putEnds, capacity-putCell, firstFree-putEnds, firstFree-putCell, lastFree-putEnds, lastFree-putCell, free-not-in-use, not-in-use-free}
+use Rattle.machine.proofs.Table.{Inside, room, cell-word, cell-other, word-putEnds, length-putEnds, length-putCell, capacity-putEnds, capacity-putCell, firstFree-putEnds, firstFree-putCell, lastFree-putEnds, lastFree-putCell, free-not-in-use, not-in-use-free}
 use Rattle.soundness.proofs.Views.{shown, Same, putView, put-same, put-other}
-use Rattle.soundness.proofs.Fits.{Fit, fit-grows, LegalPacket}
-use Rattle.soundness.proofs.Undoing.{shown-used, shown-free}
+use Rattle.soundness.proofs.LegalPackets.{Fit, fit-grows, LegalPacket}
+use Rattle.soundness.proofs.Stages.{shown-used, shown-free}
 use Rattle.soundness.proofs.Facts.{Facts, Live, free-zero, free-unnamed}
-use Rattle.soundness.proofs.Replayed.{replay-append, replays-unnamed}
-use Rattle.soundness.proofs.Appending.{Wrote, append-facts, linked-same, chain-free, free-same, operand-fit, reached-used, reached-grows, root-stays}
-use Rattle.soundness.proofs.RowAsked.{Passed}
-use Rattle.soundness.proofs.Unwritten.{cell-legal, names-three}
-use Rattle.soundness.proofs.Replacing.{points-by, points-cases}
+use Rattle.soundness.proofs.HeldCounts.{replay-append, replays-unnamed}
+use Rattle.soundness.proofs.NewPacket.{Wrote, append-facts, linked-same, chain-free, free-same, operand-fit, reached-used, reached-grows, root-stays}
+use Rattle.soundness.proofs.RowQuestions.{Passed}
+use Rattle.soundness.proofs.ReadUpDown.{cell-legal, names-three}
+use Rattle.soundness.proofs.Replace.{points-by, points-cases}
 
 occurrences-head : (i : ℕ) (is : List ℕ) (j : ℕ) → occurrences j (i ∷ is) ≡ matching i j 1 + occurrences j is
 unfolding occurrences
 occurrences-head i is j = refl
 
--- the place new leaves the head of the chain and becomes a cell of x and y
+-- the cell at index new leaves the head of the chain and becomes one of x and y
 abbrev pub withCell : List ℕ → ℕ → ℕ → ℕ → List ℕ
-withCell t new x y = putCell (putEnds t (wordAt t new left) (cond (eqb (wordAt t new left) 0) 0 (lastFree t))) new x y 1 0 1
+withCell t new x y = putCell (putEnds t (wordAt t new left) (cond (eqb (wordAt t new left) 0) 0 (lastFree t))) new (newCell x y)
 
 module _ (t : List ℕ) (ps : List Packet) (f : Facts t ps) (new : ℕ) (rest : List ℕ) (chain : Chain t (new ∷ rest)) (x y : ℕ) where
   abbrev next : ℕ
@@ -63,20 +63,23 @@ module _ (t : List ℕ) (ps : List Packet) (f : Facts t ps) (new : ℕ) (rest : 
   long = let r = f .room in omega arith
 
   same-capacity : capacity u ≡ capacity t
-  same-capacity = capacity-putCell ended new x y 1 0 1 ∙ capacity-putEnds t next last
+  same-capacity = capacity-putCell ended new (newCell x y) refl ∙ capacity-putEnds t next last
 
   -- the new cell's words, and the others'
+  new-word : (k : ℕ) → k < stride → wordAt u new k ≡ getD (newCell x y) k 0
+  new-word k l = cell-word ended new (newCell x y) refl inside k l
+
   new-left : wordAt u new left ≡ x
-  new-left = cell-left ended new x y 1 0 1 inside
+  new-left = new-word left (omega arith)
 
   new-right : wordAt u new right ≡ y
-  new-right = cell-right ended new x y 1 0 1 inside
+  new-right = new-word right (omega arith)
 
   new-root : wordAt u new rootCount ≡ 1
-  new-root = cell-root ended new x y 1 0 1 inside
+  new-root = new-word rootCount (omega arith)
 
   other : (i k : ℕ) → k < stride → i ≢ new → wordAt u i k ≡ wordAt t i k
-  other i k l d = cell-other ended new x y 1 0 1 i k l (λ e. d (sym e)) ∙ word-putEnds t next last i k
+  other i k l d = cell-other ended new (newCell x y) refl i k l (λ e. d (sym e)) ∙ word-putEnds t next last i k
 
   is-new : (i : ℕ) → (i ≡ new) ⊎ (i ≢ new)
   is-new i = ⊎-elim (λ e. inl (eqb-true i new e)) (λ e. inr (eqb-false i new e)) (tested (eqb i new))
@@ -91,11 +94,11 @@ module _ (t : List ℕ) (ps : List Packet) (f : Facts t ps) (new : ℕ) (rest : 
 
   new-used : inUse u new ≡ true
   unfolding inUse
-  new-used = lt-ltb 0 (wordAt u new state) (omega (arith, cell-state ended new x y 1 0 1 inside))
+  new-used = lt-ltb 0 (wordAt u new state) (omega (arith, new-word state (omega arith)))
 
   -- the new cell has the root count 1, and no other root count changes
-  pub making-root : (i : ℕ) → i < capacity t → wordAt u i rootCount ≡ wordAt t i rootCount + matching (suc new) (suc i) 1
-  making-root = each-cell (λ i. i < capacity t → wordAt u i rootCount ≡ wordAt t i rootCount + matching (suc new) (suc i) 1)
+  pub cons-roots : (i : ℕ) → i < capacity t → wordAt u i rootCount ≡ wordAt t i rootCount + matching (suc new) (suc i) 1
+  cons-roots = each-cell (λ i. i < capacity t → wordAt u i rootCount ≡ wordAt t i rootCount + matching (suc new) (suc i) 1)
       (λ _. omega (arith, new-root, free-zero t ps f new rootCount below was-free (omega arith) (omega arith), matching-same (suc new) (suc new) 1 refl))
       (λ i d _. omega (arith, other i rootCount (omega arith) d, matching-other (suc new) (suc i) 1 (λ e. d (omega arith))))
 
@@ -117,10 +120,10 @@ module _ (t : List ℕ) (ps : List Packet) (f : Facts t ps) (new : ℕ) (rest : 
       omega (arith, matching-same new new 1 refl, rw (not-in-use-free t new was-free) at once)
 
   first-is : firstFree u ≡ next
-  first-is = firstFree-putCell ended new x y 1 0 1 ∙ firstFree-putEnds t next last long
+  first-is = firstFree-putCell ended new (newCell x y) refl ∙ firstFree-putEnds t next last long
 
   last-is : lastFree u ≡ last
-  last-is = lastFree-putCell ended new x y 1 0 1 ∙ lastFree-putEnds t next last long
+  last-is = lastFree-putCell ended new (newCell x y) refl ∙ lastFree-putEnds t next last long
 
   ends-rest : (is : List ℕ) → Linked t next is → lastOf (map suc (new ∷ is)) ≡ lastFree t → lastOf (map suc is) ≡ last
   unfolding lastOf
@@ -141,7 +144,7 @@ module _ (t : List ℕ) (ps : List Packet) (f : Facts t ps) (new : ℕ) (rest : 
         (λ i l m. other i left (omega arith) (λ e. let z = not-again in let n = rw e at m in omega arith)));
     ends = ends-rest rest (chain .linked .2) (chain .ends) ∙ sym last-is;
     once = rw same-capacity once-rest;
-    wiped = rw same-capacity (λ (i k : ℕ) (l : i < capacity t) (e : isFree u i ≡ true) (low : right ≤ k) (high : k ≤ state).
+    wiped = rw same-capacity (λ (i k : ℕ) (l : i < capacity t) (e : isFree u i ≡ true) (low : right ≤ k) (high : k < stride).
         let d : i ≢ new = λ z. not-both new-used (rw z at (free-not-in-use u i e)) in
         other i k (omega arith) d ∙ chain .wiped i k l (sym (free-same t u i (same-use i d)) ∙ e) low high);
   }
@@ -162,11 +165,11 @@ module _ (t : List ℕ) (ps : List Packet) (f : Facts t ps) (new : ℕ) (rest : 
   at-cell : (k w : ℕ) → wordAt u new k ≡ w → shown u (pred (suc new)) k ≡ w
   at-cell k w e = ap (λ (i : ℕ). shown u i k) (let d : pred (suc new) ≡ new = omega arith in d) ∙ shown-used u new k new-used ∙ e
 
-  pub make-wrote : Wrote t u make
+  pub cons-wrote : Wrote t u make
   unfolding kindOf
-  make-wrote = record {
+  cons-wrote = record {
     sameCapacity = same-capacity;
-    placed = ((omega (arith, below), omega arith), (omega (arith, below), omega arith));
+    below = ((omega (arith, below), omega arith), (omega (arith, below), omega arith));
     holds = (at-cell left x new-left, at-cell right y new-right);
     undoes = λ i k l m. ap (λ (n : ℕ). putView (putView (shown u) n left 0) n right 0 i k) (let d : pred (suc new) ≡ new = omega arith in d) ∙ undone-cell i k l m;
   }
@@ -210,9 +213,9 @@ module _ (t : List ℕ) (ps : List Packet) (f : Facts t ps) (new : ℕ) (rest : 
         (λ i d l. let e = other i rootCount (omega arith) d in
         rw e (replay-append (suc i) (wordAt t i rootCount) ps make (f .replay i l) (a .held i l) (rw e at (a .most i (rw same-capacity l)))))
 
-    make-legal : LegalPacket u make
+    packet-legal : LegalPacket u make
     unfolding packetLegal wordsOfKind names namesOf kindOf
-    make-legal =
+    packet-legal =
         let gx = grows x x-fit in
         let gy = grows y y-fit in
         record {
@@ -220,26 +223,26 @@ module _ (t : List ℕ) (ps : List Packet) (f : Facts t ps) (new : ℕ) (rest : 
           names = names-three (Fit u) x y (suc new) gx gy new-fit;
         }
 
-    pub making : Facts u (ps ++ (make ∷ []))
-    making = append-facts t u ps make f (record {
-      sameLength = length-putCell ended new x y 1 0 1 ∙ length-putEnds t next last;
-      wrote = make-wrote;
-      states = each-cell (λ i. i < capacity t → wordAt u i state ≤ 1) (λ _. omega (arith, cell-state ended new x y 1 0 1 inside)) (λ i d l. rw (other i state (omega arith) d) (f .states i l));
-      roots = each-cell (λ i. i < capacity t → wordAt u i rootCount ≤ 4095) (λ _. omega (arith, new-root)) (λ i d l. rw (other i rootCount (omega arith) d) (f .roots i l));
+    pub cons-facts : Facts u (ps ++ (make ∷ []))
+    cons-facts = append-facts t u ps make f (record {
+      sameLength = length-putCell ended new (newCell x y) ∙ length-putEnds t next last;
+      wrote = cons-wrote;
+      states = each-cell (λ i. i < capacity t → wordAt u i state ≤ 1) (λ _. omega (arith, new-word state (omega arith))) (λ i d l. rw (other i state (omega arith) d) (f .states i l));
+      roots = each-cell (λ i. i < capacity t → wordAt u i rootCount ≤ ceiling) (λ _. omega (arith, new-root)) (λ i d l. rw (other i rootCount (omega arith) d) (f .roots i l));
       counts = each-cell (λ i. i < capacity t → wordAt u i cellCount ≡ wordAt t i cellCount)
-          (λ _. cell-cell ended new x y 1 0 1 inside ∙ sym (free-zero t ps f new cellCount below was-free (omega arith) (omega arith)))
+          (λ _. new-word cellCount (omega arith) ∙ sym (free-zero t ps f new cellCount below was-free (omega arith) (omega arith)))
           (λ i d _. other i cellCount (omega arith) d);
       keeps = λ i _. keeps i;
       fields = field-fits;
       free = rest;
       chain = rest-chain;
-      legal = make-legal;
+      legal = packet-legal;
       replay = replay-all;
       within = rw same-capacity at (a .within);
     })
 
-    pub making-live : Live t ps → Live u (ps ++ (make ∷ []))
-    making-live live i l = each-cell (λ j. j < capacity u → inUse u j ≡ true → Reached u (ps ++ (make ∷ [])) j) (λ m _. begun m new-is-root) old i l
+    pub cons-live : Live t ps → Live u (ps ++ (make ∷ []))
+    cons-live live i l = each-cell (λ j. j < capacity u → inUse u j ≡ true → Reached u (ps ++ (make ∷ [])) j) (λ m _. begun m new-is-root) old i l
       where
         new-is-root : isRoot u (ps ++ (make ∷ [])) new ≡ true
         new-is-root = unfold isRoot in or-left (isNamed (ps ++ (make ∷ [])) (suc new)) (lt-ltb 0 (wordAt u new rootCount) (omega (arith, new-root)))

@@ -7,10 +7,10 @@ use Prim.Native.Nat.{ℕ, suc, _+_, _-_, _%_, _≤_, _<_}
 use native.Mathlib.Omega.{arith}
 use Rattle.machine.specs.declared.Queue.{Queue}
 use Rattle.machine.specs.Range.{every}
-use Rattle.machine.specs.Queue.{Packet, slots, slot, putSlot, emptyQueue, appended, taken, packetsFrom, waiting, zeroPacket}
+use Rattle.machine.specs.Queue.{Arrays, Packet, slots, slot, putSlot, emptyQueue, appended, taken, packetsFrom, waiting, zeroPacket}
 use Rattle.machine.specs.Audit.{isZeroPacket, otherSlotsZero}
 use Rattle.machine.proofs.Range.{every-at, every-all, below-suc}
-use Rattle.machine.proofs.Ring.{Arrays, slot-same, slot-other}
+use Rattle.machine.proofs.Ring.{slot-same, slot-other}
 use Rattle.soundness.proofs.Facts.{Slots}
 
 zero-packet : isZeroPacket zeroPacket ≡ true
@@ -31,7 +31,7 @@ others-all q f = every-all (slots - q .count) (λ n. isZeroPacket (slot q ((q .p
 
 pub slots-appended : (q : Queue) (p : Packet) → q .count < slots → Slots q → Slots (appended q p)
 unfolding appended putSlot slot-after
-slots-appended q p l s = record { place = s .place; count = omega arith; others = others-all (appended q p) zeros }
+slots-appended q p l s = record { shape = record { place = s .shape .place; count = omega arith }; others = others-all (appended q p) zeros }
   where
     zeros : (j : ℕ) → j < slots - (q .count + 1) → isZeroPacket (slot (appended q p) ((q .place + (q .count + 1) + j) % slots)) ≡ true
     zeros j m =
@@ -55,28 +55,28 @@ apart a n j l m k e = omega arith
 
 pub slots-taken : (q : Queue) → Arrays q → 0 < q .count → Slots q → Slots (taken q)
 unfolding taken putSlot slot-after
-slots-taken q a l s = record { place = omega arith; count = omega (arith, s .count); others = others-all (taken q) zeros }
+slots-taken q a l s = record { shape = record { place = omega arith; count = omega (arith, s .shape .count) }; others = others-all (taken q) zeros }
   where
     place′ : ℕ
     place′ = (q .place + 1) % slots
 
     zeros : (j : ℕ) → j < slots - (q .count - 1) → isZeroPacket (slot (taken q) ((place′ + (q .count - 1) + j) % slots)) ≡ true
-    zeros j m = ⊎-elim earlier here (below-suc (let n : j < suc (slots - q .count) = omega (arith, s .count) in n))
+    zeros j m = ⊎-elim earlier here (below-suc (let n : j < suc (slots - q .count) = omega (arith, s .shape .count) in n))
       where
         earlier : j < slots - q .count → isZeroPacket (slot (taken q) ((place′ + (q .count - 1) + j) % slots)) ≡ true
         earlier n =
             let e : (place′ + (q .count - 1) + j) % slots ≡ (q .place + q .count + j) % slots = turned (q .place) (q .count) j l in
-            rw (e, slot-other q (q .place) zeroPacket place′ (q .count - 1) ((q .place + q .count + j) % slots) (apart (q .place) (q .count) j (s .place) l n))
+            rw (e, slot-other q (q .place) zeroPacket place′ (q .count - 1) ((q .place + q .count + j) % slots) (apart (q .place) (q .count) j (s .shape .place) l n))
             (others-at q (s .others) j n)
 
         here : j ≡ slots - q .count → isZeroPacket (slot (taken q) ((place′ + (q .count - 1) + j) % slots)) ≡ true
         here n =
-            let e : (place′ + (q .count - 1) + j) % slots ≡ q .place = turned (q .place) (q .count) j l ∙ whole (q .place) (q .count) j (s .place) (s .count) n in
-            rw (e, slot-same q (q .place) zeroPacket place′ (q .count - 1) a (s .place)) zero-packet
+            let e : (place′ + (q .count - 1) + j) % slots ≡ q .place = turned (q .place) (q .count) j l ∙ whole (q .place) (q .count) j (s .shape .place) (s .shape .count) n in
+            rw (e, slot-same q (q .place) zeroPacket place′ (q .count - 1) a (s .shape .place)) zero-packet
 
 pub slots-empty : Slots emptyQueue
 unfolding otherSlotsZero every isZeroPacket slot
-slots-empty = record { place = omega arith; count = omega arith; others = refl }
+slots-empty = record { shape = record { place = omega arith; count = omega arith }; others = refl }
 
 pub arrays-empty : Arrays emptyQueue
 arrays-empty = record { kinds = refl; a = refl; b = refl; c = refl }
