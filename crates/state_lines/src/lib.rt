@@ -9,8 +9,6 @@ mod queue;
 mod replies;
 mod runs;
 
-pub use arrays::INPUT;
-pub use arrays::LINE;
 pub use arrays::SCRATCH;
 pub use arrays::TABLE;
 pub use arrays::input_array;

@@ -55,18 +55,20 @@ pub fn changed(
     requires { ⌜ Fits store ⌝ }
     ensures { λ r. ⌜ Fits r ⌝ }
 {
-    let queue = store.queue;
     match letter {
         b'T' => Store {
             table: expand(line, table),
             scratch: 0,
             queue: Queue::empty(),
         },
-        b'S' => Store {
-            table: store.table,
-            scratch: expand(line, scratch),
-            queue,
-        },
+        b'S' => {
+            let queue = store.queue;
+            Store {
+                table: store.table,
+                scratch: expand(line, scratch),
+                queue,
+            }
+        }
         b'Q' => Store {
             table: store.table,
             scratch: store.scratch,
