@@ -1,27 +1,39 @@
 // Arrays that the longest list and its largest store fit in. Behind a call an array is its length alone, which keeps proofs of its parts short.
 ghost use mathlib.Core.Path.{_≡_};
 ghost use lib.ListN.{length};
+ghost use Rattle.state_lines.specs.Places.{tableWords, scratchWords, lineNumbers};
 
-pub fn input_array() -> [u8; 2621440]
+pub const INPUT: usize = 2621440;
+
+// A little more than the longest table: lists have tables with words behind their cells, to show that no call touches them.
+pub const TABLE: usize = cells::MOST_WORDS + 17;
+
+// For the same reason a little more than the longest scratch that is used.
+pub const SCRATCH: usize = (machine::MOST_CELLS as usize) + 4;
+
+// A line's letter, the length, the number of runs and a run for each word.
+pub const LINE: usize = 3 + 2 * TABLE;
+
+pub fn input_array() -> [u8; INPUT]
     ensures { λ r. ⌜ 2621440 ≡ length r ⌝ }
 {
-    [0; 2621440]
+    [0; INPUT]
 }
 
-pub fn table_array() -> [u16; 20500]
-    ensures { λ r. ⌜ 20500 ≡ length r ⌝ }
+pub fn table_array() -> [u16; TABLE]
+    ensures { λ r. ⌜ tableWords ≡ length r ⌝ }
 {
-    [0; 20500]
+    [0; TABLE]
 }
 
-pub fn scratch_array() -> [u16; 4100]
-    ensures { λ r. ⌜ 4100 ≡ length r ⌝ }
+pub fn scratch_array() -> [u16; SCRATCH]
+    ensures { λ r. ⌜ scratchWords ≡ length r ⌝ }
 {
-    [0; 4100]
+    [0; SCRATCH]
 }
 
-pub fn output_array() -> [u8; 65536]
-    ensures { λ r. ⌜ 65536 ≡ length r ⌝ }
+pub fn line_array() -> [u16; LINE]
+    ensures { λ r. ⌜ lineNumbers ≡ length r ⌝ }
 {
-    [0; 65536]
+    [0; LINE]
 }

@@ -1,8 +1,9 @@
 // One number for a whole store.
+use crate::queue::SLOTS;
+use crate::queue::slot_words;
 use machine::Queue;
 ghost use mathlib.Core.Path.{_≡_};
 ghost use Prim.Native.Nat.{_<_, _^_};
-ghost use lib.ListN.{length};
 ghost use Rattle.state_lines.specs.Checksum.{modulus, mixed};
 
 fn mix(sum: u64, m: u64) -> u64
@@ -23,7 +24,7 @@ fn mix_words(sum: u64, words: &[u16]) -> u64
     requires { ⌜ sum < modulus ⌝ }
     ensures { λ r. ⌜ r < modulus ⌝ }
 {
-    let mut s = mix(sum, words.len() as u64);
+    let mut s = sum;
     let mut i: usize = 0;
     while i < words.len() {
         s = mix_word(s, words[i]);
@@ -32,25 +33,15 @@ fn mix_words(sum: u64, words: &[u16]) -> u64
     s
 }
 
-fn mix_slot(sum: u64, queue: Queue, j: usize) -> u64
-    requires { ⌜ (sum < modulus) × (j < 64) ⌝ }
-    ensures { λ r. ⌜ r < modulus ⌝ }
-{
-    let s = mix_word(sum, queue.kinds[j]);
-    let s = mix_word(s, queue.a[j]);
-    let s = mix_word(s, queue.b[j]);
-    mix_word(s, queue.c[j])
-}
-
-fn mix_queue(sum: u64, queue: Queue) -> u64
+fn mix_slots(sum: u64, queue: Queue) -> u64
     requires { ⌜ sum < modulus ⌝ }
     ensures { λ r. ⌜ r < modulus ⌝ }
 {
-    let mut s = mix_word(sum, queue.place);
-    s = mix_word(s, queue.count);
+    let mut s = sum;
     let mut j: usize = 0;
-    while j < 64 {
-        s = mix_slot(s, queue, j);
+    while j < SLOTS {
+        let words = slot_words(queue, j);
+        s = mix_words(s, &words);
         j += 1;
     }
     s
@@ -59,7 +50,8 @@ fn mix_queue(sum: u64, queue: Queue) -> u64
 pub fn checksum(table: &[u16], queue: Queue, scratch: &[u16]) -> u64
     ensures { λ r. ⌜ r < modulus ⌝ }
 {
-    let s = mix_words(0, table);
-    let s = mix_queue(s, queue);
-    mix_words(s, scratch)
+    let s = mix_words(mix(0, table.len() as u64), table);
+    let s = mix_word(mix_word(s, queue.place), queue.count);
+    let s = mix_slots(s, queue);
+    mix_words(mix(s, scratch.len() as u64), scratch)
 }

@@ -1,111 +1,62 @@
-// Letters and numbers of a list, read at a place that moves on.
-ghost use Prim.Native.Nat.{_+_, _-_, _*_, _<_, _≤_};
+// A line's letter and numbers. Each space begins a number, which the bytes up to the next space spell.
+ghost use Prim.Native.Nat.{_<_, _≤_};
 ghost use lib.ListN.{length};
-ghost use Rattle.state_lines.specs.Places.{Onward};
 
 const SPACE: u8 = 32;
 
 const LINE_FEED: u8 = 10;
 
-const NINE: u8 = 57;
-
-const ZERO: u8 = 48;
-
-pub struct Letter {
-    pub value: u8,
+// The numbers stand from 1 to below the count; next is the place after the line feed.
+pub struct LineRead {
+    pub letter: u8,
+    pub count: usize,
     pub next: usize,
 }
 
-pub struct Number {
-    pub value: u16,
-    pub next: usize,
+// The number with one more digit, modulo 65,536; the digit is the byte's lower half.
+fn with_digit(value: u16, b: u8) -> u16 {
+    let v = 10 * (value as u32) + ((b % 16) as u32);
+    (v % 65536) as u16
 }
 
-// The place of the first byte from at on that is neither a space nor a line feed.
-fn skip_gap(input: &[u8], at: usize) -> usize
-    requires { ⌜ at ≤ length (now input) ⌝ }
-    ensures { λ r. ⌜ Onward at r (now (input .entry)) ⌝ }
+// The count of a line's numbers after one more byte. A number for which there is no room is left out.
+fn take_byte(line: &mut [u16], count: usize, b: u8) -> usize
+    requires { ⌜ (0 < count) × (count ≤ length (now line)) ⌝ }
+    ensures { λ r. ⌜ (0 < r) × (r ≤ length (now (line .exit))) ⌝ }
 {
-    let mut i = at;
+    if b != SPACE {
+        line[count - 1] = with_digit(line[count - 1], b);
+        return count;
+    }
+    if count < line.len() {
+        line[count] = 0;
+        return count + 1;
+    }
+    count
+}
+
+pub fn read_line(input: &[u8], at: usize, line: &mut [u16]) -> LineRead
+    requires { ⌜ (at < length (now input)) × (0 < length (now line)) ⌝ }
+    ensures { λ r. ⌜ (at < r .next) × (r .next ≤ length (now (input .entry))) × (r .count ≤ length (now (line .exit))) ⌝ }
+{
+    let letter = input[at];
+    let mut count: usize = 1;
+    let mut i = at + 1;
     while i < input.len() {
         let b = input[i];
-        if b != SPACE {
-            if b != LINE_FEED {
-                return i;
-            }
-        }
         i += 1;
-    }
-    i
-}
-
-// The place of the next line feed.
-pub fn skip_line(input: &[u8], at: usize) -> usize
-    requires { ⌜ at ≤ length (now input) ⌝ }
-    ensures { λ r. ⌜ Onward at r (now (input .entry)) ⌝ }
-{
-    let mut i = at;
-    while i < input.len() {
-        if input[i] == LINE_FEED {
-            return i;
+        if b == LINE_FEED {
+            return LineRead {
+                letter,
+                count,
+                next: i,
+            };
         }
-        i += 1;
+        count = take_byte(line, count, b);
     }
-    i
-}
-
-// The next letter; 0 at the end of the input.
-pub fn read_letter(input: &[u8], at: usize) -> Letter
-    requires { ⌜ at < length (now input) ⌝ }
-    ensures { λ r. ⌜ (at < r .next) × (r .next ≤ length (now (input .entry))) ⌝ }
-{
-    let i = skip_gap(input, at);
-    if i < input.len() {
-        return Letter {
-            value: input[i],
-            next: i + 1,
-        };
+    LineRead {
+        letter,
+        count,
+        next: i,
     }
-    Letter { value: 0, next: i }
-}
-
-// The number with one more digit, at most 65,535.
-fn with_digit(value: u16, digit: u8) -> u16
-    requires { ⌜ (48 ≤ digit) × (digit ≤ 57) ⌝ }
-    ensures { λ r. ⌜ (r ≤ 10 * value + (digit - 48)) × (r ≤ 65535) ⌝ }
-{
-    let v = 10 * (value as u32) + ((digit - ZERO) as u32);
-    if v < 65536 {
-        return v as u16;
-    }
-    65535
-}
-
-// The number whose digits begin at a place; 0 where none does.
-fn digits_at(input: &[u8], at: usize) -> Number
-    requires { ⌜ at ≤ length (now input) ⌝ }
-    ensures { λ r. ⌜ Onward at (r .next) (now (input .entry)) ⌝ }
-{
-    let mut value: u16 = 0;
-    let mut i = at;
-    while i < input.len() {
-        let b = input[i];
-        if b < ZERO {
-            return Number { value, next: i };
-        }
-        if NINE < b {
-            return Number { value, next: i };
-        }
-        value = with_digit(value, b);
-        i += 1;
-    }
-    Number { value, next: i }
-}
-
-pub fn read_number(input: &[u8], at: usize) -> Number
-    requires { ⌜ at ≤ length (now input) ⌝ }
-    ensures { λ r. ⌜ Onward at (r .next) (now (input .entry)) ⌝ }
-{
-    let i = skip_gap(input, at);
-    digits_at(input, i)
 }

@@ -1,12 +1,11 @@
 // A call's answer, as the paper's reply and as text.
 use crate::checksum::checksum;
 use crate::lines::Call;
-use crate::output::put_byte;
+use crate::output::put_name;
 use crate::output::put_number;
-use crate::output::put_text;
 use crate::output::put_word;
-use crate::runs::put_words;
-use crate::slots::put_queue;
+use crate::queue::put_queue;
+use crate::runs::put_runs;
 use machine::AuditAnswer;
 use machine::FreshAnswer;
 use machine::Queue;
@@ -15,17 +14,17 @@ use machine::RowAnswer;
 use machine::Rule;
 use machine::StepAnswer;
 ghost use mathlib.Core.Path.{_≡_};
+ghost use Prim.Native.Nat.{_<_, _≤_};
 ghost use Rattle.machine.specs.Answers.{refusalNumber, ruleNumber, rowReply, freshReply, stepReply, auditAnswerReply};
-ghost use Rattle.state_lines.specs.Places.{Room};
 ghost use Rattle.state_lines.specs.Replies.{paperReply};
 
 pub enum Reply {
     Value(u16),
-    Refused(u16),
+    Refused(Refusal),
     Idle,
     Applied(u16, u16),
     Sound,
-    Broken(u16),
+    Broken(Rule),
 }
 
 fn refusal_number(r: Refusal) -> u16
@@ -62,7 +61,7 @@ pub fn row_reply(answer: RowAnswer) -> Reply
 {
     match answer {
         RowAnswer::Done(w) => Reply::Value(w),
-        RowAnswer::Refused(r) => Reply::Refused(refusal_number(r)),
+        RowAnswer::Refused(r) => Reply::Refused(r),
     }
 }
 
@@ -71,7 +70,7 @@ pub fn fresh_reply(answer: FreshAnswer) -> Reply
 {
     match answer {
         FreshAnswer::Done => Reply::Value(0),
-        FreshAnswer::Refused(r) => Reply::Refused(refusal_number(r)),
+        FreshAnswer::Refused(r) => Reply::Refused(r),
     }
 }
 
@@ -81,7 +80,7 @@ pub fn step_reply(answer: StepAnswer) -> Reply
     match answer {
         StepAnswer::Idle => Reply::Idle,
         StepAnswer::Applied { kind, freed } => Reply::Applied(kind, freed),
-        StepAnswer::Refused(r) => Reply::Refused(refusal_number(r)),
+        StepAnswer::Refused(r) => Reply::Refused(r),
     }
 }
 
@@ -90,88 +89,66 @@ pub fn audit_reply(answer: AuditAnswer) -> Reply
 {
     match answer {
         AuditAnswer::Sound => Reply::Sound,
-        AuditAnswer::Broken(r) => Reply::Broken(rule_number(r)),
-        AuditAnswer::Refused(r) => Reply::Refused(refusal_number(r)),
+        AuditAnswer::Broken(r) => Reply::Broken(r),
+        AuditAnswer::Refused(r) => Reply::Refused(r),
     }
 }
 
-fn put_reply(out: &mut [u8], to: usize, reply: Reply) -> usize
-    requires { ⌜ Room to (now out) ⌝ }
-    ensures { λ r. ⌜ Room r (now (out .exit)) ⌝ }
-{
+fn put_named(name: &[u8], w: u16) {
+    put_name(name);
+    put_word(w)
+}
+
+fn put_reply(reply: Reply) {
     match reply {
-        Reply::Value(w) => {
-            let to = put_text(out, to, b" OK");
-            put_word(out, to, w)
-        }
-        Reply::Refused(n) => {
-            let to = put_text(out, to, b" NO");
-            put_word(out, to, n)
-        }
-        Reply::Idle => put_text(out, to, b" IDLE"),
+        Reply::Value(w) => put_named(b" OK", w),
+        Reply::Refused(r) => put_named(b" NO", refusal_number(r)),
+        Reply::Idle => put_name(b" IDLE"),
         Reply::Applied(kind, freed) => {
-            let to = put_text(out, to, b" TAKEN");
-            let to = put_word(out, to, kind);
-            put_word(out, to, freed)
+            put_named(b" TAKEN", kind);
+            put_word(freed)
         }
-        Reply::Sound => put_text(out, to, b" SOUND"),
-        Reply::Broken(n) => {
-            let to = put_text(out, to, b" BROKEN");
-            put_word(out, to, n)
-        }
+        Reply::Sound => put_name(b" SOUND"),
+        Reply::Broken(r) => put_named(b" BROKEN", rule_number(r)),
     }
 }
 
-fn put_call(out: &mut [u8], to: usize, call: Call) -> usize
-    requires { ⌜ Room to (now out) ⌝ }
-    ensures { λ r. ⌜ Room r (now (out .exit)) ⌝ }
-{
-    let to = put_byte(out, to, call.letter);
-    let to = put_word(out, to, call.code);
-    let to = put_word(out, to, call.p);
-    put_word(out, to, call.q)
+fn put_call(call: Call) {
+    let letter = [call.letter];
+    put_name(&letter);
+    put_word(call.code);
+    put_word(call.p);
+    put_word(call.q)
 }
 
-fn put_store(out: &mut [u8], to: usize, table: &[u16], queue: Queue, scratch: &[u16]) -> usize
-    requires { ⌜ Room to (now out) ⌝ }
-    ensures { λ r. ⌜ Room r (now (out .exit)) ⌝ }
-{
-    let to = put_words(out, to, b'T', table);
-    let to = put_queue(out, to, queue);
-    put_words(out, to, b'S', scratch)
+fn put_store(table: &[u16], queue: Queue, scratch: &[u16]) {
+    put_runs(b"\nT", table);
+    put_queue(queue);
+    put_runs(b"\nS", scratch);
+    put_name(b"\n")
 }
 
-fn put_checksum(out: &mut [u8], to: usize, table: &[u16], queue: Queue, scratch: &[u16]) -> usize
-    requires { ⌜ Room to (now out) ⌝ }
-    ensures { λ r. ⌜ Room r (now (out .exit)) ⌝ }
-{
-    let to = put_byte(out, to, b'H');
-    let to = put_number(out, to, checksum(table, queue, scratch));
-    put_byte(out, to, b'\n')
+fn put_checksum(table: &[u16], queue: Queue, scratch: &[u16]) {
+    put_name(b"\nH");
+    put_number(checksum(table, queue, scratch));
+    put_name(b"\n")
 }
 
-// A call's line with its reply, and of the store that it left what the letter asks. An undecided call's reply and store are not shown.
-pub fn write_call(
-    out: &mut [u8],
-    to: usize,
-    call: Call,
-    reply: Reply,
-    table: &[u16],
-    queue: Queue,
-    scratch: &[u16],
-) -> usize
-    requires { ⌜ Room to (now out) ⌝ }
-    ensures { λ r. ⌜ Room r (now (out .exit)) ⌝ }
+// Writes a call's line with its reply, and of the store that it left what the letter asks; an undecided call's reply and store are not shown.
+// Gives the number of lines.
+pub fn write_call(call: Call, reply: Reply, table: &[u16], queue: Queue, scratch: &[u16]) -> usize
+    ensures { λ r. ⌜ (0 < r) × (r ≤ 4) ⌝ }
 {
-    let to = put_call(out, to, call);
-    let letter = call.letter;
-    if letter == b'U' {
-        return put_text(out, to, b" UNDECIDED\n");
+    put_call(call);
+    if call.letter == b'U' {
+        put_name(b" UNDECIDED\n");
+        return 1;
     }
-    let to = put_reply(out, to, reply);
-    let to = put_byte(out, to, b'\n');
-    if letter == b'C' {
-        return put_store(out, to, table, queue, scratch);
+    put_reply(reply);
+    if call.letter == b'C' {
+        put_store(table, queue, scratch);
+        return 4;
     }
-    put_checksum(out, to, table, queue, scratch)
+    put_checksum(table, queue, scratch);
+    2
 }

@@ -2,24 +2,20 @@
 use calls::RowReply;
 use libc::STDIN_FILENO;
 use machine::Queue;
-use state_lines::Line;
+use machine::Refusal;
+use state_lines::Call;
 use state_lines::Reply;
+use state_lines::SCRATCH;
 use state_lines::Store;
+use state_lines::TABLE;
 ghost use mathlib.Core.Path.{_≡_};
-ghost use Prim.Native.Nat.{_<_, _≤_};
+ghost use Prim.Native.Nat.{_≤_};
 ghost use lib.ListN.{length};
-ghost use Rattle.state_lines.specs.Places.{Room, Holds};
+ghost use Rattle.state_lines.specs.Places.{Fits};
 
 struct Made {
     reply: Reply,
     queue: Queue,
-}
-
-// The places reached in the input and in the buffer of the output, and the store.
-struct Progress {
-    at: usize,
-    to: usize,
-    store: Store,
 }
 
 fn row(r: RowReply) -> Made {
@@ -79,19 +75,17 @@ fn make_call(
         8 => step(table, queue, scratch),
         9 => audit(table, queue, scratch),
         _ => Made {
-            reply: Reply::Refused(0),
+            reply: Reply::Refused(Refusal::NumberOutOfRange),
             queue,
         },
     }
 }
 
-// Makes a line's call on the words that are the table, and writes what came of it.
-fn answer(table: &mut [u16], scratch: &mut [u16], line: Line, out: &mut [u8], to: usize) -> Progress
-    requires { ⌜ Holds (line .store) (now table) (now scratch) × Room to (now out) ⌝ }
-    ensures { λ r. ⌜ (r .at ≡ line .next) × Holds (r .store) (now (table .exit)) (now (scratch .exit)) × Room (r .to) (now (out .exit)) ⌝ }
+// Makes a call on the words that are the table, and writes what came of it.
+fn answer(table: &mut [u16], scratch: &mut [u16], store: Store, call: Call) -> Store
+    requires { ⌜ (store .table ≤ length (now table)) × (store .scratch ≤ length (now scratch)) ⌝ }
+    ensures { λ r. ⌜ (r .table ≡ store .table) × (r .scratch ≡ store .scratch) ⌝ }
 {
-    let call = line.call;
-    let store = line.store;
     let n = store.table;
     let m = store.scratch;
     let made = make_call(
@@ -104,59 +98,46 @@ fn answer(table: &mut [u16], scratch: &mut [u16], line: Line, out: &mut [u8], to
     );
     let reply = made.reply;
     let queue = made.queue;
-    let to = state_lines::write_call(out, to, call, reply, &table[..n], queue, &scratch[..m]);
-    Progress {
-        at: line.next,
-        to,
-        store: Store {
-            table: n,
-            scratch: m,
-            queue,
-        },
+    state_lines::write_call(call, reply, &table[..n], queue, &scratch[..m]);
+    Store {
+        table: n,
+        scratch: m,
+        queue,
     }
 }
 
 fn take_line(
-    input: &[u8],
-    table: &mut [u16],
-    scratch: &mut [u16],
-    out: &mut [u8],
-    here: Progress,
-) -> Progress
-    requires { ⌜ (here .at < length (now input)) × Holds (here .store) (now table) (now scratch) × Room (here .to) (now out) ⌝ }
-    ensures { λ r. ⌜ (here .at < r .at) × (r .at ≤ length (now (input .entry))) × Holds (r .store) (now (table .exit)) (now (scratch .exit)) × Room (r .to) (now (out .exit)) ⌝ }
+    letter: u8,
+    line: &[u16],
+    table: &mut [u16; TABLE],
+    scratch: &mut [u16; SCRATCH],
+    store: Store,
+) -> Store
+    requires { ⌜ Fits store ⌝ }
+    ensures { λ r. ⌜ Fits r ⌝ }
 {
-    let line = state_lines::read_line(input, here.at, table, scratch, here.store);
-    if line.call.letter != 0 {
-        return answer(table, scratch, line, out, here.to);
-    }
-    let store = line.store;
-    Progress {
-        at: line.next,
-        to: here.to,
-        store,
+    match letter {
+        b'C' | b'B' | b'U' => answer(table, scratch, store, state_lines::call_of(letter, line)),
+        _ => state_lines::changed(letter, line, table, scratch, store),
     }
 }
 
-fn run(input: &[u8], table: &mut [u16], scratch: &mut [u16], out: &mut [u8])
-    requires { ⌜ 0 < length (now out) ⌝ }
-{
-    let mut here = Progress {
-        at: 0,
-        to: 0,
-        store: state_lines::no_store(),
-    };
-    while here.at < input.len() {
-        here = take_line(input, table, scratch, out, here);
+fn run(input: &[u8]) {
+    let mut line = state_lines::line_array();
+    let mut table = state_lines::table_array();
+    let mut scratch = state_lines::scratch_array();
+    let mut store = state_lines::no_store();
+    let mut at: usize = 0;
+    while at < input.len() {
+        let read = state_lines::read_line(input, at, &mut line);
+        let n = read.count;
+        store = take_line(read.letter, &line[..n], &mut table, &mut scratch, store);
+        at = read.next;
     }
-    state_lines::flush(out, here.to);
 }
 
 fn main() {
     let mut input = state_lines::input_array();
-    let mut table = state_lines::table_array();
-    let mut scratch = state_lines::scratch_array();
-    let mut out = state_lines::output_array();
     let n = io::read_full(STDIN_FILENO, &mut input);
-    run(&input[..n], &mut table, &mut scratch, &mut out);
+    run(&input[..n]);
 }

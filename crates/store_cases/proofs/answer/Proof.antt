@@ -40,9 +40,6 @@ same-length c = search needs
 same-length-2 : tie.Need-same-length-2
 same-length-2 c = search needs
 
-same-length-3 : tie.Need-same-length-3
-same-length-3 c = search needs
-
 returns : tie.Need-returns
 returns c = search needs
 
@@ -62,5 +59,4 @@ answer-spec =
     write-call-requires
     same-length
     same-length-2
-    same-length-3
     returns)

@@ -1,28 +1,44 @@
-use mathlib.Core.Path.{_≡_}
+use mathlib.Core.Path.{_≡_, sym}
 use Prim.Native.Nat.{_-_, _≤_}
+use lib.Seq.{length-take-le}
 use lib.ListN.{length}
 use borrow.Author.Needs.{needs}
-use Rattle.state_lines.specs.Places.{Holds, Room}
+use Rattle.state_lines.specs.Places.{Fits, lineNumbers}
 use Rattle.store_cases.proofs.run.Statement.{statement}
 use Rattle.store_cases.proofs.run.Tie as tie
 
 abbrev Inv-loop : tie.InvT-loop
-Inv-loop input table₀ scratch₀ out₀ here₀ table scratch out here =
-    (here .at ≤ length input)
-    × Holds (here .store) table scratch
-    × Room (here .to) out
-    × (length table ≡ length table₀)
-    × (length scratch ≡ length scratch₀)
-    × (length out ≡ length out₀)
+Inv-loop input line₀ table₀ scratch₀ store₀ at₀ line table scratch store at = (at ≤ length input) × Fits store × (length line ≡ lineNumbers)
 
 abbrev μ-loop : tie.MeasureT-loop
-μ-loop input table₀ scratch₀ out₀ here₀ table scratch out here = length input - here .at
+μ-loop input line₀ table₀ scratch₀ store₀ at₀ line table scratch store at = length input - at
+
+line-array-requires : tie.Need-line-array-requires Inv-loop μ-loop
+line-array-requires c κs = search needs
+
+table-array-requires : tie.Need-table-array-requires Inv-loop μ-loop
+table-array-requires c κs = search needs
+
+scratch-array-requires : tie.Need-scratch-array-requires Inv-loop μ-loop
+scratch-array-requires c κs = search needs
 
 no-store-requires : tie.Need-no-store-requires Inv-loop μ-loop
 no-store-requires c κs = search needs
 
 loop-holds : tie.Need-loop-holds Inv-loop μ-loop
 loop-holds c = search needs
+
+slice-aggregate-read-line : tie.Need-slice-aggregate-read-line Inv-loop μ-loop
+slice-aggregate-read-line c = search needs
+
+read-line-requires : tie.Need-read-line-requires Inv-loop μ-loop
+read-line-requires c κs = search needs
+
+array-share-prefix-line : tie.Need-array-share-prefix-line Inv-loop μ-loop
+array-share-prefix-line c = search needs
+
+slice-aggregate-take-line : tie.Need-slice-aggregate-take-line Inv-loop μ-loop
+slice-aggregate-take-line c = sym (length-take-le _ _ (search needs))
 
 take-line-requires : tie.Need-take-line-requires Inv-loop μ-loop
 take-line-requires c κs = search needs
@@ -33,18 +49,6 @@ loop-less c = search needs
 loop-again : tie.Need-loop-again Inv-loop μ-loop
 loop-again c = search needs
 
-flush-requires : tie.Need-flush-requires Inv-loop μ-loop
-flush-requires c κs = search needs
-
-same-length : tie.Need-same-length Inv-loop μ-loop
-same-length c = search needs
-
-same-length-2 : tie.Need-same-length-2 Inv-loop μ-loop
-same-length-2 c = search needs
-
-same-length-3 : tie.Need-same-length-3 Inv-loop μ-loop
-same-length-3 c = search needs
-
 returns : tie.Need-returns Inv-loop μ-loop
 returns c = search needs
 
@@ -54,13 +58,16 @@ run-spec =
     (tie.spec
     Inv-loop
     μ-loop
+    line-array-requires
+    table-array-requires
+    scratch-array-requires
     no-store-requires
     loop-holds
+    slice-aggregate-read-line
+    read-line-requires
+    array-share-prefix-line
+    slice-aggregate-take-line
     take-line-requires
     loop-less
     loop-again
-    flush-requires
-    same-length
-    same-length-2
-    same-length-3
     returns)

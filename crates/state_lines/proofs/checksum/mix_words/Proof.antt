@@ -11,9 +11,6 @@ Inv-loop sum words s₀ i₀ s i = (s < modulus) × (i ≤ length words)
 abbrev μ-loop : tie.MeasureT-loop
 μ-loop sum words s₀ i₀ s i = length words - i
 
-mix-requires : tie.Need-mix-requires Inv-loop μ-loop
-mix-requires c κs = search needs
-
 loop-holds : tie.Need-loop-holds Inv-loop μ-loop
 loop-holds c = search needs
 
@@ -44,7 +41,6 @@ mix-words-spec =
     (tie.spec
     Inv-loop
     μ-loop
-    mix-requires
     loop-holds
     mul-mix-word
     shared-slice-read-mix-word

@@ -1,6 +1,5 @@
-use mathlib.Core.Path.{ap, sym, _∙_}
+use mathlib.Core.Path.{ap, sym}
 use borrow.Author.Needs.{needs}
-use Rattle.machine.specs.Calls.{refused}
 use Rattle.machine.specs.Answers.{rowReply}
 use Rattle.state_lines.proofs.replies.row_reply.Statement.{statement}
 use Rattle.state_lines.proofs.replies.row_reply.Tie as tie
@@ -11,16 +10,11 @@ enum-known-answer c = search needs
 enum-known-answer-2 : tie.Need-enum-known-answer-2
 enum-known-answer-2 c = search needs
 
-refusal-number-requires : tie.Need-refusal-number-requires
-refusal-number-requires c κs = search needs
-
 returns : tie.Need-returns
 returns c = sym (ap rowReply (c .before .answer .given .1))
 
 returns-2 : tie.Need-returns-2
-returns-2 c = ap refused (c .refusal-number .ensures) ∙ sym (ap rowReply (c .before .before .answer2 .given .1))
+returns-2 c = sym (ap rowReply (c .before .answer2 .given .1))
 
 pub row-reply-spec : {M : Type 1} → statement M
-row-reply-spec =
-    tie.close
-    (tie.spec enum-known-answer enum-known-answer-2 refusal-number-requires returns returns-2)
+row-reply-spec = tie.close (tie.spec enum-known-answer enum-known-answer-2 returns returns-2)

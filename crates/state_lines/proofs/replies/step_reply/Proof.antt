@@ -1,6 +1,5 @@
-use mathlib.Core.Path.{ap, sym, _∙_}
+use mathlib.Core.Path.{ap, sym}
 use borrow.Author.Needs.{needs}
-use Rattle.machine.specs.Calls.{refused}
 use Rattle.machine.specs.Answers.{stepReply}
 use Rattle.state_lines.proofs.replies.step_reply.Statement.{statement}
 use Rattle.state_lines.proofs.replies.step_reply.Tie as tie
@@ -14,9 +13,6 @@ enum-known-answer c = search needs
 enum-known-answer-2 : tie.Need-enum-known-answer-2
 enum-known-answer-2 c = search needs
 
-refusal-number-requires : tie.Need-refusal-number-requires
-refusal-number-requires c κs = search needs
-
 returns : tie.Need-returns
 returns c = search needs
 
@@ -24,16 +20,9 @@ returns-2 : tie.Need-returns-2
 returns-2 c = sym (ap stepReply (c .before .answer .given .1))
 
 returns-3 : tie.Need-returns-3
-returns-3 c = ap refused (c .refusal-number .ensures) ∙ sym (ap stepReply (c .before .before .answer2 .given .1))
+returns-3 c = sym (ap stepReply (c .before .answer2 .given .1))
 
 pub step-reply-spec : {M : Type 1} → statement M
 step-reply-spec =
     tie.close
-    (tie.spec
-    enum-told
-    enum-known-answer
-    enum-known-answer-2
-    refusal-number-requires
-    returns
-    returns-2
-    returns-3)
+    (tie.spec enum-told enum-known-answer enum-known-answer-2 returns returns-2 returns-3)

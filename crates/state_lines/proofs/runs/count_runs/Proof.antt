@@ -13,6 +13,15 @@ abbrev μ-loop : tie.MeasureT-loop
 loop-holds : tie.Need-loop-holds Inv-loop μ-loop
 loop-holds c = search needs
 
+add-run-end : tie.Need-add-run-end Inv-loop μ-loop
+add-run-end c = search needs
+
+mul-run-end : tie.Need-mul-run-end Inv-loop μ-loop
+mul-run-end c = search needs
+
+shared-slice-read-run-end : tie.Need-shared-slice-read-run-end Inv-loop μ-loop
+shared-slice-read-run-end c = search needs
+
 run-end-requires : tie.Need-run-end-requires Inv-loop μ-loop
 run-end-requires c κs = search needs
 
@@ -31,4 +40,15 @@ returns c = search needs
 pub count-runs-spec : {M : Type 1} → statement M
 count-runs-spec =
     tie.close
-    (tie.spec Inv-loop μ-loop loop-holds run-end-requires add-n loop-less loop-again returns)
+    (tie.spec
+    Inv-loop
+    μ-loop
+    loop-holds
+    add-run-end
+    mul-run-end
+    shared-slice-read-run-end
+    run-end-requires
+    add-n
+    loop-less
+    loop-again
+    returns)

@@ -6,10 +6,19 @@ use Rattle.state_lines.proofs.runs.fill.Statement.{statement}
 use Rattle.state_lines.proofs.runs.fill.Tie as tie
 
 abbrev Inv-loop : tie.InvT-loop
-Inv-loop words₀ from end v i₀ words i = (from ≤ i) × (i ≤ end) × (length words ≡ length words₀)
+Inv-loop words₀ from count v end i₀ words i = (from ≤ i) × (i ≤ end) × (length words ≡ length words₀)
 
 abbrev μ-loop : tie.MeasureT-loop
-μ-loop words₀ from end v i₀ words i = end - i
+μ-loop words₀ from count v end i₀ words i = end - i
+
+sub-if1 : tie.Need-sub-if1 Inv-loop μ-loop
+sub-if1 c = search needs
+
+returns : tie.Need-returns Inv-loop μ-loop
+returns c = search needs
+
+add-end : tie.Need-add-end Inv-loop μ-loop
+add-end c = search needs
 
 loop-holds : tie.Need-loop-holds Inv-loop μ-loop
 loop-holds c = search needs
@@ -32,8 +41,8 @@ loop-again c = search needs
 same-length : tie.Need-same-length Inv-loop μ-loop
 same-length c = search needs
 
-returns : tie.Need-returns Inv-loop μ-loop
-returns c = search needs
+returns-2 : tie.Need-returns-2 Inv-loop μ-loop
+returns-2 c = search needs
 
 pub fill-spec : {M : Type 1} → statement M
 fill-spec =
@@ -41,6 +50,9 @@ fill-spec =
     (tie.spec
     Inv-loop
     μ-loop
+    sub-if1
+    returns
+    add-end
     loop-holds
     mul-words
     slice-write-words
@@ -48,4 +60,4 @@ fill-spec =
     loop-less
     loop-again
     same-length
-    returns)
+    returns-2)

@@ -1,23 +1,14 @@
-use Prim.Native.Nat.{_-_, _<_, _≤_}
+use Prim.Native.Nat.{_-_, _≤_}
 use lib.ListN.{length}
 use borrow.Author.Needs.{needs}
 use Rattle.state_lines.proofs.runs.run_end.Statement.{statement}
 use Rattle.state_lines.proofs.runs.run_end.Tie as tie
 
 abbrev Inv-loop : tie.InvT-loop
-Inv-loop words from v i₀ i = (from < i) × (i ≤ length words)
+Inv-loop words from v i₀ i = (from ≤ i) × (i ≤ length words)
 
 abbrev μ-loop : tie.MeasureT-loop
 μ-loop words from v i₀ i = length words - i
-
-mul-v : tie.Need-mul-v Inv-loop μ-loop
-mul-v c = search needs
-
-shared-slice-read-v : tie.Need-shared-slice-read-v Inv-loop μ-loop
-shared-slice-read-v c = search needs
-
-add-i : tie.Need-add-i Inv-loop μ-loop
-add-i c = search needs
 
 loop-holds : tie.Need-loop-holds Inv-loop μ-loop
 loop-holds c = search needs
@@ -31,8 +22,8 @@ shared-slice-read-if1 c = search needs
 returns : tie.Need-returns Inv-loop μ-loop
 returns c = search needs
 
-add-i-2 : tie.Need-add-i-2 Inv-loop μ-loop
-add-i-2 c = search needs
+add-i : tie.Need-add-i Inv-loop μ-loop
+add-i c = search needs
 
 loop-less : tie.Need-loop-less Inv-loop μ-loop
 loop-less c = search needs
@@ -49,14 +40,11 @@ run-end-spec =
     (tie.spec
     Inv-loop
     μ-loop
-    mul-v
-    shared-slice-read-v
-    add-i
     loop-holds
     mul-if1
     shared-slice-read-if1
     returns
-    add-i-2
+    add-i
     loop-less
     loop-again
     returns-2)

@@ -1,18 +1,20 @@
-use mathlib.Core.Path.{_≡_}
-use Prim.Native.Nat.{_-_, _<_, _≤_}
-use lib.ListN.{length}
+use Prim.Native.Nat.{_-_, _≤_}
 use borrow.Author.Needs.{needs}
-use Rattle.state_lines.proofs.slots.put_slots.Statement.{statement}
-use Rattle.state_lines.proofs.slots.put_slots.Tie as tie
+use Rattle.machine.specs.Queue.{slots}
+use Rattle.state_lines.proofs.queue.put_slots.Statement.{statement}
+use Rattle.state_lines.proofs.queue.put_slots.Tie as tie
 
 abbrev Inv-loop : tie.InvT-loop
-Inv-loop out₀ to queue at₀ j₀ out at j = (at ≤ length out) × (length out ≡ length out₀) × (0 < length out) × (j ≤ 64)
+Inv-loop queue j₀ j = j ≤ slots
 
 abbrev μ-loop : tie.MeasureT-loop
-μ-loop out₀ to queue at₀ j₀ out at j = 64 - j
+μ-loop queue j₀ j = slots - j
 
 loop-holds : tie.Need-loop-holds Inv-loop μ-loop
 loop-holds c = search needs
+
+slot-words-requires : tie.Need-slot-words-requires Inv-loop μ-loop
+slot-words-requires c κs = search needs
 
 put-slot-requires : tie.Need-put-slot-requires Inv-loop μ-loop
 put-slot-requires c κs = search needs
@@ -26,9 +28,6 @@ loop-less c = search needs
 loop-again : tie.Need-loop-again Inv-loop μ-loop
 loop-again c = search needs
 
-same-length : tie.Need-same-length Inv-loop μ-loop
-same-length c = search needs
-
 returns : tie.Need-returns Inv-loop μ-loop
 returns c = search needs
 
@@ -39,9 +38,9 @@ put-slots-spec =
     Inv-loop
     μ-loop
     loop-holds
+    slot-words-requires
     put-slot-requires
     add-j
     loop-less
     loop-again
-    same-length
     returns)

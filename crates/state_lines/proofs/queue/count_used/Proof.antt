@@ -1,18 +1,22 @@
 use mathlib.Core.Logic.{⊎-elim}
-use Prim.Native.Nat.{_-_, _≤_}
 use native.Mathlib.Omega.{arith}
+use Prim.Native.Nat.{_-_, _≤_}
 use borrow.Author.Needs.{needs}
-use Rattle.state_lines.proofs.slots.count_used.Statement.{statement}
-use Rattle.state_lines.proofs.slots.count_used.Tie as tie
+use Rattle.machine.specs.Queue.{slots}
+use Rattle.state_lines.proofs.queue.count_used.Statement.{statement}
+use Rattle.state_lines.proofs.queue.count_used.Tie as tie
 
 abbrev Inv-loop : tie.InvT-loop
-Inv-loop queue n₀ j₀ n j = (n ≤ j) × (j ≤ 64)
+Inv-loop queue n₀ j₀ n j = (n ≤ j) × (j ≤ slots)
 
 abbrev μ-loop : tie.MeasureT-loop
-μ-loop queue n₀ j₀ n j = 64 - j
+μ-loop queue n₀ j₀ n j = slots - j
 
 loop-holds : tie.Need-loop-holds Inv-loop μ-loop
 loop-holds c = search needs
+
+slot-words-requires : tie.Need-slot-words-requires Inv-loop μ-loop
+slot-words-requires c κs = search needs
 
 is-used-requires : tie.Need-is-used-requires Inv-loop μ-loop
 is-used-requires c κs = search needs
@@ -35,4 +39,14 @@ returns c = search needs
 pub count-used-spec : {M : Type 1} → statement M
 count-used-spec =
     tie.close
-    (tie.spec Inv-loop μ-loop loop-holds is-used-requires add-n add-j loop-less loop-again returns)
+    (tie.spec
+    Inv-loop
+    μ-loop
+    loop-holds
+    slot-words-requires
+    is-used-requires
+    add-n
+    add-j
+    loop-less
+    loop-again
+    returns)
