@@ -3,7 +3,7 @@ ghost use mathlib.Core.Path.{_≡_};
 ghost use Prim.Native.Nat.{_-_};
 ghost use Rattle.machine.specs.Counters.{Raised};
 ghost use Rattle.machine.specs.Queue.{emptyQueue};
-ghost use Rattle.machine.specs.Answers.{refusalNumber};
+ghost use Rattle.machine.specs.Answers.{refusalNumber, ruleNumber};
 
 // The largest C.
 pub const MOST_CELLS: u16 = 4096;
@@ -155,6 +155,20 @@ pub enum Rule {
     Packets,
     Pointers,
     Reached,
+}
+
+impl Rule {
+    pub fn number(self) -> u16
+        ensures { λ r. ⌜ r ≡ ruleNumber self ⌝ }
+    {
+        match self {
+            Rule::Cells => 1,
+            Rule::FreeChain => 2,
+            Rule::Packets => 3,
+            Rule::Pointers => 4,
+            Rule::Reached => 5,
+        }
+    }
 }
 
 pub enum AuditAnswer {

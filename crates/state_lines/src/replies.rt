@@ -15,7 +15,7 @@ use machine::Rule;
 use machine::StepAnswer;
 ghost use mathlib.Core.Path.{_≡_};
 ghost use Prim.Native.Nat.{_<_, _≤_};
-ghost use Rattle.machine.specs.Answers.{refusalNumber, ruleNumber, rowReply, freshReply, stepReply, auditAnswerReply};
+ghost use Rattle.machine.specs.Answers.{rowReply, freshReply, stepReply, auditAnswerReply};
 ghost use Rattle.state_lines.specs.Replies.{paperReply};
 
 pub enum Reply {
@@ -25,35 +25,6 @@ pub enum Reply {
     Applied(u16, u16),
     Sound,
     Broken(Rule),
-}
-
-fn refusal_number(r: Refusal) -> u16
-    ensures { λ n. ⌜ n ≡ refusalNumber r ⌝ }
-{
-    match r {
-        Refusal::StoreOutOfRange => 1,
-        Refusal::ScratchTooShort => 2,
-        Refusal::NumberOutOfRange => 3,
-        Refusal::IllegalWord => 4,
-        Refusal::NotACell => 5,
-        Refusal::NotHeld => 6,
-        Refusal::QueueFull => 7,
-        Refusal::NoFreeCell => 8,
-        Refusal::HeldCountTooHigh => 9,
-        Refusal::TooManyPointers => 10,
-    }
-}
-
-fn rule_number(r: Rule) -> u16
-    ensures { λ n. ⌜ n ≡ ruleNumber r ⌝ }
-{
-    match r {
-        Rule::Cells => 1,
-        Rule::FreeChain => 2,
-        Rule::Packets => 3,
-        Rule::Pointers => 4,
-        Rule::Reached => 5,
-    }
 }
 
 pub fn row_reply(answer: RowAnswer) -> Reply
@@ -102,14 +73,14 @@ fn put_named(name: &[u8], w: u16) {
 fn put_reply(reply: Reply) {
     match reply {
         Reply::Value(w) => put_named(b" OK", w),
-        Reply::Refused(r) => put_named(b" NO", refusal_number(r)),
+        Reply::Refused(r) => put_named(b" NO", r.number()),
         Reply::Idle => put_name(b" IDLE"),
         Reply::Applied(kind, freed) => {
             put_named(b" TAKEN", kind);
             put_word(freed)
         }
         Reply::Sound => put_name(b" SOUND"),
-        Reply::Broken(r) => put_named(b" BROKEN", rule_number(r)),
+        Reply::Broken(r) => put_named(b" BROKEN", r.number()),
     }
 }
 
