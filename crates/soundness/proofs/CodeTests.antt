@@ -19,8 +19,7 @@ use Rattle.machine.proofs.Range.{tested, exists-some, not-both, matching-same}
 use Rattle.soundness.proofs.Views.{shown, pointers-seen, seen-waiting, stages-last}
 use Rattle.soundness.proofs.Facts.{Facts, sound-facts, all-below}
 use Rattle.soundness.proofs.HeldCounts.{final-sum, final-most}
-use Rattle.soundness.proofs.NewPacket.{chain-free}
-use Rattle.soundness.proofs.RowWrites.{chain-some}
+use Rattle.soundness.proofs.FreeChain.{chain-some, chain-free}
 
 module _ (t : List ℕ) (q : Queue) (s : Sound t q) where
   f : Facts t (waiting q)

@@ -20,14 +20,14 @@ use Rattle.machine.proofs.Range.{tested, or-left, and-both, not-both, matching-
 use Rattle.machine.proofs.Words.{place-cell}
 use Rattle.machine.proofs.Table.{Inside, room, cell-word, cell-other, word-putEnds, length-putEnds, length-putCell, capacity-putEnds, capacity-putCell, firstFree-putEnds, firstFree-putCell, lastFree-putEnds, lastFree-putCell, free-not-in-use, not-in-use-free}
 use Rattle.soundness.proofs.Views.{shown, Same, putView, put-same, put-other}
-use Rattle.soundness.proofs.LegalPackets.{Fit, fit-grows, LegalPacket}
+use Rattle.soundness.proofs.LegalPackets.{Fit, fit-grows, cell-legal, names-three, LegalPacket}
 use Rattle.soundness.proofs.Stages.{shown-used, shown-free}
 use Rattle.soundness.proofs.Facts.{Facts, Live, free-zero, free-unnamed}
 use Rattle.soundness.proofs.HeldCounts.{replay-append, replays-unnamed}
-use Rattle.soundness.proofs.NewPacket.{Wrote, append-facts, linked-same, chain-free, free-same, operand-fit, reached-used, reached-grows, root-stays}
+use Rattle.soundness.proofs.FreeChain.{linked-same, chain-free, free-same}
+use Rattle.soundness.proofs.ReachedCells.{points-by, points-cases, reached-used, reached-grows, root-stays}
+use Rattle.soundness.proofs.NewPacket.{Wrote, append-facts, operand-fit}
 use Rattle.soundness.proofs.RowQuestions.{Passed}
-use Rattle.soundness.proofs.ReadUpDown.{cell-legal, names-three}
-use Rattle.soundness.proofs.Replace.{points-by, points-cases}
 
 occurrences-head : (i : ℕ) (is : List ℕ) (j : ℕ) → occurrences j (i ∷ is) ≡ matching i j 1 + occurrences j is
 unfolding occurrences

@@ -27,8 +27,8 @@ use Rattle.soundness.proofs.Views.{nil-no-cell, View, shown, entries, s
 use Rattle.soundness.proofs.LegalPackets.{Fit, fit-nil, LegalPacket, WrittenIn, legal-written, legal-detached, written-map}
 use Rattle.soundness.proofs.Stages.{shown-used, shown-free}
 use Rattle.soundness.proofs.Facts.{Facts, Live, last-within, free-zero, all-below}
-use Rattle.soundness.proofs.NewPacket.{chain-free, reached-used, reached-grows}
-use Rattle.soundness.proofs.Replace.{points-by, points-cases}
+use Rattle.soundness.proofs.FreeChain.{chain-free}
+use Rattle.soundness.proofs.ReachedCells.{points-by, points-cases, reached-used, reached-grows}
 use Rattle.soundness.proofs.Masks.{mask, masked, unmasked, WritesShown, mask-earlier, unwritten-earlier, seen-split, mask-stages}
 
 -- the pointers out of the cells that pass a test, as a sum

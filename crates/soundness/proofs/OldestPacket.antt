@@ -21,7 +21,7 @@ use Rattle.soundness.proofs.PacketKinds.{lowers-uses, Unmoved, unnamed,
 use Rattle.soundness.proofs.Views.{shown, Same, same-sym, all-map, earlier, earlier-same, seen, seen-same, seen-undo, stages-same, stages-within}
 use Rattle.soundness.proofs.LegalPackets.{fit-grows, LegalPacket, legal-grows}
 use Rattle.soundness.proofs.Facts.{Facts, all-below, free-unnamed}
-use Rattle.soundness.proofs.NewPacket.{chain-same}
+use Rattle.soundness.proofs.FreeChain.{chain-same}
 
 first-applied : (t : List ℕ) (hs : List Change) → firstFree (applyChanges t hs) ≡ firstFree t
 unfolding applyChanges

@@ -14,11 +14,12 @@ use Rattle.machine.specs.Audit.{Sound}
 use Rattle.machine.proofs.Ring.{waiting-appended}
 use Rattle.soundness.proofs.Facts.{Facts, Live, slots-of, sound-facts, sound-live, facts-sound}
 use Rattle.soundness.proofs.ZeroSlots.{slots-appended}
+use Rattle.soundness.proofs.FreeChain.{chain-some}
 use Rattle.soundness.proofs.RowQuestions.{Passed, RowYes, row-yes}
 use Rattle.soundness.proofs.ReadUpDown.{unwritten-live, read-facts, up-facts, down-facts}
 use Rattle.soundness.proofs.Replace.{replace-facts, replace-live}
 use Rattle.soundness.proofs.Cons.{cons-facts, cons-live}
-use Rattle.soundness.proofs.RowWrites.{chain-some, cons-case, first-legal, second-legal}
+use Rattle.soundness.proofs.RowWrites.{cons-case, first-legal, second-legal}
 
 pub record Kept (u : List ℕ) (ps : List Packet) : Type 0 where
   pub facts : Facts u ps

@@ -25,7 +25,7 @@ use Rattle.machine.proofs.Kept.{machine-refused, machine-accepted, gives-machin
 use Rattle.soundness.specs.Demand3.{Link, Joined, Begun, tableAfter, queueAfter, Holds, holds, moved, answers, holdsFrom, holdsAfter, Held, NoneLost, NoneLeft, ExactWhenDone, Clauses, Demand3}
 use Rattle.soundness.proofs.PacketKinds.{unnamed-waiting}
 use Rattle.soundness.proofs.Facts.{Facts, sound-facts, sound-live}
-use Rattle.soundness.proofs.NewPacket.{counted-used, pointed-used}
+use Rattle.soundness.proofs.ReachedCells.{counted-used, pointed-used}
 use Rattle.soundness.proofs.CallSound.{decided}
 use Rattle.soundness.proofs.CodeTests.{pointers-counted}
 use Rattle.soundness.proofs.RootsAreHolds.{Agrees, fresh-agrees, row-agrees, step-agrees}
