@@ -46,7 +46,12 @@ module _ (t : List ℕ) (q : Queue) (s : Sound t q) where
   pub held-most : (i : ℕ) → i < capacity t
       → wordAt t i rootCount + waitingChange root plus (suc i) (waiting q) ≤ ceiling + waitingChange root minus (suc i) (waiting q)
   held-most i l =
-      omega (arith, final-sum (suc i) (wordAt t i rootCount) (waiting q) (f .replay i l), final-most (suc i) (wordAt t i rootCount) (waiting q) (f .roots i l) (f .replay i l))
+      omega (
+        arith,
+        final-sum (suc i) (wordAt t i rootCount) (waiting q) (f .replay i l),
+        final-most (suc i) (wordAt t i rootCount) (waiting q) (f .roots i l)
+            (f .replay i l),
+      )
 
   pub pointers-most : (i : ℕ) → i < capacity t → pointers t (suc i) ≤ ceiling
   pointers-most i l = omega (arith, pointers-seen t i, stages-last (capacity t) (shown t) (waiting q) (f .stages) i l)

@@ -34,7 +34,8 @@ atom-no-cell c w m h i l e = omega (arith, leb-true 32768 w (and-first (leb 3276
 pub field-fit : (t : List ℕ) (w : ℕ) → capacity t ≤ mostCells → fieldSound t w ≡ true → Fit t w
 unfolding fieldSound isLegal
 field-fit t w m h =
-    ⊎-elim (λ e. ⊎-elim nil atom (or-true (isNil w) (isAtom w) e)) (λ e. number (and-first (isCell (capacity t) w) (inUse t (pred w)) e) (and-second (isCell (capacity t) w) (inUse t (pred w)) e))
+    ⊎-elim (λ e. ⊎-elim nil atom (or-true (isNil w) (isAtom w) e))
+    (λ e. number (and-first (isCell (capacity t) w) (inUse t (pred w)) e) (and-second (isCell (capacity t) w) (inUse t (pred w)) e))
     (or-true (isNil w || isAtom w) (isCell (capacity t) w && inUse t (pred w)) h)
   where
     zero-word : isNil w ≡ true → w ≡ 0
@@ -94,7 +95,8 @@ legal-packets t [] h = refl
 legal-packets t (p ∷ ps) h =
     and-both (and-both (h .0 .words) (everyOf-all (names p) (fieldSound t) (λ w c. fit-field t w (h .0 .names w c)))) (legal-packets t ps (h .1))
 
-pub legal-grows : (t u : List ℕ) (p : Packet) → capacity u ≡ capacity t → ((i : ℕ) → i < capacity t → inUse t i ≡ true → inUse u i ≡ true) → LegalPacket t p → LegalPacket u p
+pub legal-grows : (t u : List ℕ) (p : Packet) → capacity u ≡ capacity t → ((i : ℕ) → i < capacity t → inUse t i ≡ true → inUse u i ≡ true)
+    → LegalPacket t p → LegalPacket u p
 unfolding packetLegal
 legal-grows t u p c g h = record { words = rw c (h .words); names = λ w n. fit-grows t u w c g (h .names w n) }
 
@@ -154,9 +156,11 @@ unfolding packetLegal names wordsOfKind namesOf
 legal-written t p h = go (kindOf (p .kind)) (p .a) (p .b) (p .c) (kind-field (p .kind)) (h .words) (h .names)
   where
     at-cell : (c k : ℕ) → k ≤ right → isCell (capacity t) c ≡ true → Fit t c → WrittenIn t (pred c) k
-    at-cell c k f e n = record { below = cell-place (capacity t) c e; field = f; used = n .used (pred c) (cell-place (capacity t) c e) (cell-number (capacity t) c e) }
+    at-cell c k f e n =
+        record { below = cell-place (capacity t) c e; field = f; used = n .used (pred c) (cell-place (capacity t) c e) (cell-number (capacity t) c e) }
 
-    go : (n : Kind) (a b c : ℕ) → FieldOf n → wordsOfKind (capacity t) n a b c ≡ true → ((w : ℕ) → contains (namesOf n a b c) w ≡ true → Fit t w) → WrittenOf (WrittenIn t) n c
+    go : (n : Kind) (a b c : ℕ) → FieldOf n → wordsOfKind (capacity t) n a b c ≡ true → ((w : ℕ) → contains (namesOf n a b c) w ≡ true → Fit t w)
+        → WrittenOf (WrittenIn t) n c
     go reads a b c f w g = tt
     go makes a b c f w g =
         let e = and-second (isLegal (capacity t) a && isLegal (capacity t) b) (isCell (capacity t) c) w in

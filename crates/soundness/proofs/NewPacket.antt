@@ -25,7 +25,8 @@ HeldFor t ps p = (i : ℕ) → i < capacity t
     → (uses p (suc i) ≡ 0) ⊎ (waitingChange root minus (suc i) ps + uses p (suc i) ≤ wordAt t i rootCount + waitingChange root plus (suc i) ps)
 
 -- an operand that is legal and that the call names, held as question 6 asks, is fit
-pub operand-fit : (t : List ℕ) (ps : List Packet) → Facts t ps → (p : Packet) (w : ℕ) → HeldFor t ps p → isLegal (capacity t) w ≡ true → ((i : ℕ) → w ≡ suc i → 1 ≤ uses p (suc i)) → Fit t w
+pub operand-fit : (t : List ℕ) (ps : List Packet) → Facts t ps → (p : Packet) (w : ℕ) → HeldFor t ps p → isLegal (capacity t) w ≡ true
+    → ((i : ℕ) → w ≡ suc i → 1 ≤ uses p (suc i)) → Fit t w
 operand-fit t ps f p w held legal named = record {
   legal = legal;
   used = λ i l e. let n = named i e in counted-used t ps f i l (⊎-elim (λ z. absurd (omega arith)) (λ z. omega arith) (held i l));
@@ -39,7 +40,8 @@ pub record Wrote (t u : List ℕ) (p : Packet) : Type 0 where
   pub undoes : Same (capacity t) (undoView p (shown u)) (shown t)
 
 -- so that it moved the pointers as its packet will move the cell counts
-pub wrote-pointers : (t u : List ℕ) (p : Packet) → Wrote t u p → (i : ℕ) → pointers u (suc i) + moves cell minus p (suc i) ≡ pointers t (suc i) + moves cell plus p (suc i)
+pub wrote-pointers : (t u : List ℕ) (p : Packet) → Wrote t u p → (i : ℕ)
+    → pointers u (suc i) + moves cell minus p (suc i) ≡ pointers t (suc i) + moves cell plus p (suc i)
 wrote-pointers t u p w i =
     omega (
       arith,
@@ -75,9 +77,11 @@ append-facts t u ps p f a = record {
   fields = rw (a .wrote .sameCapacity) (a .fields);
   free = a .free;
   chain = a .chain;
-  legal = all-snoc (LegalPacket u) ps p (all-map (LegalPacket t) (LegalPacket u) ps (λ r. legal-grows t u r (a .wrote .sameCapacity) (a .keeps)) (f .legal)) (a .legal);
+  legal = all-snoc (LegalPacket u) ps p (all-map (LegalPacket t) (LegalPacket u) ps (λ r. legal-grows t u r (a .wrote .sameCapacity) (a .keeps)) (f .legal))
+      (a .legal);
   replay = rw (a .wrote .sameCapacity) (a .replay);
-  stages = rw (a .wrote .sameCapacity) (stages-snoc c (shown u) ps p (stages-same c (shown t) (undoView p (shown u)) ps same (all-below t ps f) (f .stages)) (a .wrote .holds) (a .within));
+  stages = rw (a .wrote .sameCapacity) (stages-snoc c (shown u) ps p (stages-same c (shown t) (undoView p (shown u)) ps same (all-below t ps f) (f .stages))
+      (a .wrote .holds) (a .within));
   counts = rw (a .wrote .sameCapacity) (λ (i : ℕ) (l : i < c). a .counts i l ∙ f .counts i l
       ∙ seen-same c (earlier (shown t) ps) (earlier (undoView p (shown u)) ps) (suc i) (earlier-same c (shown t) (undoView p (shown u)) ps same)
       ∙ ap (λ (v : View). seen c v (suc i)) (sym (earlier-snoc (shown u) ps p)));

@@ -36,14 +36,17 @@ module _ (t : List ℕ) (ps : List Packet) (f : Facts t ps) where
 
   root-cases : (i : ℕ) → i < capacity t → isRoot t ps i ≡ true → inUse t i ≡ true
   unfolding isRoot
-  root-cases i l h = ⊎-elim (λ e. held-used t ps f i l (ltb-true 0 (wordAt t i rootCount) e)) (λ e. named-used t ps f i l e) (or-true (ltb 0 (wordAt t i rootCount)) (isNamed ps (suc i)) h)
+  root-cases i l h =
+      ⊎-elim (λ e. held-used t ps f i l (ltb-true 0 (wordAt t i rootCount) e)) (λ e. named-used t ps f i l e)
+      (or-true (ltb 0 (wordAt t i rootCount)) (isNamed ps (suc i)) h)
 
   -- a cell in a field of a cell in use is in use
   pub pointed-used : (j i : ℕ) → j < capacity t → i < capacity t → inUse t j ≡ true → pointsTo t j i ≡ true → inUse t i ≡ true
   unfolding pointsTo
   pointed-used j i m l u h =
       ⊎-elim (λ e. f .fields j left m (omega arith) u .used i l (eqb-true (wordAt t j left) (suc i) e))
-      (λ e. f .fields j right m (omega arith) u .used i l (eqb-true (wordAt t j right) (suc i) e)) (or-true (eqb (wordAt t j left) (suc i)) (eqb (wordAt t j right) (suc i)) h)
+      (λ e. f .fields j right m (omega arith) u .used i l (eqb-true (wordAt t j right) (suc i) e))
+      (or-true (eqb (wordAt t j left) (suc i)) (eqb (wordAt t j right) (suc i)) h)
 
   pub reached-used : {i : ℕ} → Reached t ps i → (i < capacity t) × (inUse t i ≡ true)
   reached-used (begun {i = i} l h) = (l, root-cases i l h)
@@ -60,7 +63,8 @@ reached-grows t u ps qs c roots edges (onward {j = j} {i = i} r l h) =
     ⊎-elim (λ e. onward (reached-grows t u ps qs c roots edges r) m e) (λ e. begun m e) (edges j i r l h)
 
 -- a root stays one when a packet joins and its root count does not fall to 0
-pub root-stays : (t u : List ℕ) (ps : List Packet) (p : Packet) (i : ℕ) → (0 < wordAt t i rootCount → 0 < wordAt u i rootCount) → isRoot t ps i ≡ true → isRoot u (ps ++ (p ∷ [])) i ≡ true
+pub root-stays : (t u : List ℕ) (ps : List Packet) (p : Packet) (i : ℕ) → (0 < wordAt t i rootCount → 0 < wordAt u i rootCount) → isRoot t ps i ≡ true
+    → isRoot u (ps ++ (p ∷ [])) i ≡ true
 unfolding isRoot
 root-stays t u ps p i g h =
     ⊎-elim (λ e. or-left (isNamed (ps ++ (p ∷ [])) (suc i)) (lt-ltb 0 (wordAt u i rootCount) (g (ltb-true 0 (wordAt t i rootCount) e))))

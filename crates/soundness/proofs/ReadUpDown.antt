@@ -35,7 +35,8 @@ Idle unknown = Unit {0}
 pub wrote-nothing : (t : List ℕ) (n a b c : ℕ) → Idle (kindOf n) → Wrote t t (packet n a b c)
 wrote-nothing t n a b c h = let w = go (kindOf n) h in record { sameCapacity = refl; below = w .0; holds = w .1; undoes = w .2 }
   where
-    go : (k : Kind) → Idle k → WrittenOf (λ i m. (i < capacity t) × (m ≤ right)) k c × HoldsOf k a b c (shown t) × Same (capacity t) (undoneView k a b c (shown t)) (shown t)
+    go : (k : Kind) → Idle k
+        → WrittenOf (λ i m. (i < capacity t) × (m ≤ right)) k c × HoldsOf k a b c (shown t) × Same (capacity t) (undoneView k a b c (shown t)) (shown t)
     go reads h = (tt, tt, λ i m _ _. refl)
     go makes h = absurd h
     go (replaces k) h = absurd h
@@ -72,7 +73,8 @@ module _ (t : List ℕ) (ps : List Packet) (f : Facts t ps) where
       read = packet 1 x (wordAt t (pred x) k) 0
 
       reader-fit : Fit t x
-      reader-fit = operand-fit t ps f read x (y .held) (cell-legal (capacity t) x cell) (λ i e. unfold uses usesOf kindOf in omega (arith, matching-same x (suc i) 1 e))
+      reader-fit =
+          operand-fit t ps f read x (y .held) (cell-legal (capacity t) x cell) (λ i e. unfold uses usesOf kindOf in omega (arith, matching-same x (suc i) 1 e))
 
       word-fit : Fit t (wordAt t (pred x) k)
       word-fit = f .fields (pred x) k (cell-place (capacity t) x cell) low (cell-used t x cell reader-fit)
@@ -92,7 +94,8 @@ module _ (t : List ℕ) (ps : List Packet) (f : Facts t ps) where
           unwritten-facts (packet 4 x n 0) y
           (record {
             words = and-both (and-both cell number) refl;
-            names = names-one (Fit t) x (operand-fit t ps f (packet 4 x n 0) x (y .held) (cell-legal (capacity t) x cell) (λ i e. omega (arith, matching-same x (suc i) 1 e)));
+            names = names-one (Fit t) x (operand-fit t ps f (packet 4 x n 0) x (y .held) (cell-legal (capacity t) x cell)
+                (λ i e. omega (arith, matching-same x (suc i) 1 e)));
           })
           (wrote-nothing t 4 x n 0 tt)
 

@@ -73,7 +73,8 @@ module _ (t : List ℕ) (ps : List Packet) (f : Facts t ps) (n k x y : ℕ) (kin
     field-fits : (i m : ℕ) → i < capacity t → m ≤ right → inUse u i ≡ true → Fit u (wordAt u i m)
     field-fits i m l h e =
         rw (word-put t (pred x) k y i m (room t (capacity t) (pred x) (f .room) below) (omega arith) (omega arith))
-        (⊎-elim (λ (c : eqb k m && eqb (pred x) i ≡ true). rw c (grows y y-fit)) (λ (c : eqb k m && eqb (pred x) i ≡ false). rw c (grows (wordAt t i m) (f .fields i m l h (sym (same-use i) ∙ e))))
+        (⊎-elim (λ (c : eqb k m && eqb (pred x) i ≡ true). rw c (grows y y-fit))
+        (λ (c : eqb k m && eqb (pred x) i ≡ false). rw c (grows (wordAt t i m) (f .fields i m l h (sym (same-use i) ∙ e))))
         (tested (eqb k m && eqb (pred x) i)))
 
     -- the free cells are as they were
@@ -126,7 +127,8 @@ module _ (t : List ℕ) (ps : List Packet) (f : Facts t ps) (n k x y : ℕ) (kin
       free = f .free;
       chain = chain-same t u (f .free) same-capacity (firstFree-putWord t (pred x) k y) (lastFree-putWord t (pred x) k y) (λ i _. same-use i) free-words (f .chain);
       legal = replace-legal;
-      replay = λ i l. rw (same-root i) (replay-append (suc i) (wordAt t i rootCount) ps replace (f .replay i l) (held i l) (rw (same-root i) at (a .most i (rw same-capacity l))));
+      replay = λ i l. rw (same-root i) (replay-append (suc i) (wordAt t i rootCount) ps replace (f .replay i l) (held i l)
+          (rw (same-root i) at (a .most i (rw same-capacity l))));
       within = rw same-capacity at (a .within);
     })
 
@@ -138,7 +140,9 @@ module _ (t : List ℕ) (ps : List Packet) (f : Facts t ps) (n k x y : ℕ) (kin
         named d = unfold names in rw kind (unfold namesOf in rw (← d) (second-of y detached (x ∷ [])))
 
         through : (b : ℕ) × (b ≤ right) × (wordAt t j b ≡ suc i) → (pointsTo u j i ≡ true) ⊎ (isRoot u (ps ++ (replace ∷ [])) i ≡ true)
-        through w = ⊎-elim (λ c. inr (root-named u ps replace i (named (here c)))) (λ c. inl (points-by u j i (w .0) (w .1) (there c ∙ w .2))) (tested (eqb k (w .0) && eqb (pred x) j))
+        through w =
+            ⊎-elim (λ c. inr (root-named u ps replace i (named (here c)))) (λ c. inl (points-by u j i (w .0) (w .1) (there c ∙ w .2)))
+            (tested (eqb k (w .0) && eqb (pred x) j))
           where
             here : eqb k (w .0) && eqb (pred x) j ≡ true → detached ≡ suc i
             here c =

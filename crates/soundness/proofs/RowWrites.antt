@@ -59,7 +59,8 @@ module _ (t : List ℕ) (ps : List Packet) (f : Facts t ps) where
   row-wrote (down x n) e h a = unfold written packetOf in wrote-nothing t 5 x n 0 tt
 
   -- cons gives its new cell the root count 1
-  pub cons-root : (x y i : ℕ) → cellFree t ≡ true → i < capacity t → wordAt (written t (cons x y)) i rootCount ≡ wordAt t i rootCount + matching (packetOf t (cons x y) .c) (suc i) 1
+  pub cons-root : (x y i : ℕ) → cellFree t ≡ true → i < capacity t
+      → wordAt (written t (cons x y)) i rootCount ≡ wordAt t i rootCount + matching (packetOf t (cons x y) .c) (suc i) 1
   cons-root x y i a l =
       cons-case t (f .free) (f .chain) (some-free a) x y (λ u p. wordAt u i rootCount ≡ wordAt t i rootCount + matching (p .c) (suc i) 1)
       (λ new rest c. cons-roots t ps f new rest c x y i l)
@@ -71,7 +72,8 @@ module _ (t : List ℕ) (ps : List Packet) (f : Facts t ps) where
 
   -- a root count stands, or is that of cons's new cell, which was free
   pub row-root : (r : RowCall) → AllYes (askFree t r) → (i : ℕ) → i < capacity t
-      → (wordAt (written t r) i rootCount ≡ wordAt t i rootCount) ⊎ ((wordAt (written t r) i rootCount ≡ 1) × (inUse t i ≡ false) × (moves root plus (packetOf t r) (suc i) ≡ 0))
+      → (wordAt (written t r) i rootCount ≡ wordAt t i rootCount)
+      ⊎ ((wordAt (written t r) i rootCount ≡ 1) × (inUse t i ≡ false) × (moves root plus (packetOf t r) (suc i) ≡ 0))
   unfolding askFree
   row-root (car x) a i l = unfold written in inl refl
   row-root (cdr x) a i l = unfold written in inl refl
