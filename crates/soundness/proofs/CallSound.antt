@@ -43,12 +43,14 @@ fresh-yes s c h =
 pub fresh-whole : (s : Store) (c : ℕ) → firstNo (questions s (fresh c)) ≡ 0 → Whole (freshTable c (s .table)) emptyQueue
 fresh-whole s c h = let y = fresh-yes s c h in record { sound = fresh-sound c (s .table) (y .some) (y .most) (y .room); arrays = arrays-empty }
 
-step-whole : (s : Store) → Whole (s .table) (s .queue) → (ps : List Packet) → waiting (s .queue) ≡ ps → Whole (stepFrom s ps .after .table) (stepFrom s ps .after .queue)
+step-whole : (s : Store) → Whole (s .table) (s .queue) → (ps : List Packet) → waiting (s .queue) ≡ ps
+    → Whole (stepFrom s ps .after .table) (stepFrom s ps .after .queue)
 unfolding stepFrom stepWith
 step-whole s w [] e = w
 step-whole s w (p ∷ ps) e = record { sound = step-sound (s .table) (s .queue) p ps (w .sound) (w .arrays) e; arrays = arrays-taken (s .queue) (w .arrays) }
 
-pub accepted-whole : (s : Store) (call : Call) → Whole (s .table) (s .queue) → firstNo (questions s call) ≡ 0 → Whole (accepted s call .after .table) (accepted s call .after .queue)
+pub accepted-whole : (s : Store) (call : Call) → Whole (s .table) (s .queue) → firstNo (questions s call) ≡ 0
+    → Whole (accepted s call .after .table) (accepted s call .after .queue)
 unfolding accepted stepped audited
 accepted-whole s (fresh c) w h = fresh-whole s c h
 accepted-whole s (row r) w h = record { sound = row-sound s r (w .sound) (w .arrays) h; arrays = arrays-appended (s .queue) (packetOf (s .table) r) (w .arrays) }
@@ -70,5 +72,6 @@ decided s step h = inl h
 decided s audit h = tt
 
 -- so every call that keeps the promise leaves a sound store sound
-pub promise-whole : (s : Store) (call : Call) (r : Reply) (after : Store) → Promise s call r after → Whole (s .table) (s .queue) → Whole (after .table) (after .queue)
+pub promise-whole : (s : Store) (call : Call) (r : Reply) (after : Store) → Promise s call r after → Whole (s .table) (s .queue)
+    → Whole (after .table) (after .queue)
 promise-whole s call r after p w = rw (gives-machine s call r after (p .exact (decided s call (w .sound))) .1) (machine-whole s call w)

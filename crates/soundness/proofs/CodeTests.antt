@@ -19,8 +19,7 @@ use Rattle.machine.proofs.Range.{tested, exists-some, not-both, matching-same}
 use Rattle.soundness.proofs.Views.{shown, pointers-seen, seen-waiting, stages-last}
 use Rattle.soundness.proofs.Facts.{Facts, sound-facts, all-below}
 use Rattle.soundness.proofs.HeldCounts.{final-sum, final-most}
-use Rattle.soundness.proofs.NewPacket.{chain-free}
-use Rattle.soundness.proofs.RowWrites.{chain-some}
+use Rattle.soundness.proofs.FreeChain.{chain-some, chain-free}
 
 module _ (t : List ℕ) (q : Queue) (s : Sound t q) where
   f : Facts t (waiting q)
@@ -47,7 +46,12 @@ module _ (t : List ℕ) (q : Queue) (s : Sound t q) where
   pub held-most : (i : ℕ) → i < capacity t
       → wordAt t i rootCount + waitingChange root plus (suc i) (waiting q) ≤ ceiling + waitingChange root minus (suc i) (waiting q)
   held-most i l =
-      omega (arith, final-sum (suc i) (wordAt t i rootCount) (waiting q) (f .replay i l), final-most (suc i) (wordAt t i rootCount) (waiting q) (f .roots i l) (f .replay i l))
+      omega (
+        arith,
+        final-sum (suc i) (wordAt t i rootCount) (waiting q) (f .replay i l),
+        final-most (suc i) (wordAt t i rootCount) (waiting q) (f .roots i l)
+            (f .replay i l),
+      )
 
   pub pointers-most : (i : ℕ) → i < capacity t → pointers t (suc i) ≤ ceiling
   pointers-most i l = omega (arith, pointers-seen t i, stages-last (capacity t) (shown t) (waiting q) (f .stages) i l)

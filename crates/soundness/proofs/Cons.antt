@@ -20,14 +20,14 @@ use Rattle.machine.proofs.Range.{tested, or-left, and-both, not-both, matching-
 use Rattle.machine.proofs.Words.{place-cell}
 use Rattle.machine.proofs.Table.{Inside, room, cell-word, cell-other, word-putEnds, length-putEnds, length-putCell, capacity-putEnds, capacity-putCell, firstFree-putEnds, firstFree-putCell, lastFree-putEnds, lastFree-putCell, free-not-in-use, not-in-use-free}
 use Rattle.soundness.proofs.Views.{shown, Same, putView, put-same, put-other}
-use Rattle.soundness.proofs.LegalPackets.{Fit, fit-grows, LegalPacket}
+use Rattle.soundness.proofs.LegalPackets.{Fit, fit-grows, cell-legal, names-three, LegalPacket}
 use Rattle.soundness.proofs.Stages.{shown-used, shown-free}
 use Rattle.soundness.proofs.Facts.{Facts, Live, free-zero, free-unnamed}
 use Rattle.soundness.proofs.HeldCounts.{replay-append, replays-unnamed}
-use Rattle.soundness.proofs.NewPacket.{Wrote, append-facts, linked-same, chain-free, free-same, operand-fit, reached-used, reached-grows, root-stays}
+use Rattle.soundness.proofs.FreeChain.{linked-same, chain-free, free-same}
+use Rattle.soundness.proofs.ReachedCells.{points-by, points-cases, reached-used, reached-grows, root-stays}
+use Rattle.soundness.proofs.NewPacket.{Wrote, append-facts, operand-fit}
 use Rattle.soundness.proofs.RowQuestions.{Passed}
-use Rattle.soundness.proofs.ReadUpDown.{cell-legal, names-three}
-use Rattle.soundness.proofs.Replace.{points-by, points-cases}
 
 occurrences-head : (i : ℕ) (is : List ℕ) (j : ℕ) → occurrences j (i ∷ is) ≡ matching i j 1 + occurrences j is
 unfolding occurrences
@@ -158,7 +158,9 @@ module _ (t : List ℕ) (ps : List Packet) (f : Facts t ps) (new : ℕ) (rest : 
       elsewhere j d = unfold shown in ap₂ (λ (b : Bool) (w : ℕ). cond b w 0) (same-use j d) (other j k (omega arith) d)
 
       at-new : (k : ℕ) → k ≤ right → putView (putView (shown u) new left 0) new right 0 new k ≡ shown t new k
-      at-new zero m = put-other (putView (shown u) new left 0) new right 0 new left (λ _ e. omega arith) ∙ put-same (shown u) new left 0 ∙ sym (shown-free t new left was-free)
+      at-new zero m =
+          put-other (putView (shown u) new left 0) new right 0 new left (λ _ e. omega arith) ∙ put-same (shown u) new left 0
+          ∙ sym (shown-free t new left was-free)
       at-new (suc zero) m = put-same (putView (shown u) new left 0) new right 0 ∙ sym (shown-free t new right was-free)
       at-new (suc (suc k)) m = absurd (omega arith)
 
@@ -227,8 +229,10 @@ module _ (t : List ℕ) (ps : List Packet) (f : Facts t ps) (new : ℕ) (rest : 
     cons-facts = append-facts t u ps make f (record {
       sameLength = length-putCell ended new (newCell x y) ∙ length-putEnds t next last;
       wrote = cons-wrote;
-      states = each-cell (λ i. i < capacity t → wordAt u i state ≤ 1) (λ _. omega (arith, new-word state (omega arith))) (λ i d l. rw (other i state (omega arith) d) (f .states i l));
-      roots = each-cell (λ i. i < capacity t → wordAt u i rootCount ≤ ceiling) (λ _. omega (arith, new-root)) (λ i d l. rw (other i rootCount (omega arith) d) (f .roots i l));
+      states = each-cell (λ i. i < capacity t → wordAt u i state ≤ 1) (λ _. omega (arith, new-word state (omega arith)))
+          (λ i d l. rw (other i state (omega arith) d) (f .states i l));
+      roots = each-cell (λ i. i < capacity t → wordAt u i rootCount ≤ ceiling) (λ _. omega (arith, new-root))
+          (λ i d l. rw (other i rootCount (omega arith) d) (f .roots i l));
       counts = each-cell (λ i. i < capacity t → wordAt u i cellCount ≡ wordAt t i cellCount)
           (λ _. new-word cellCount (omega arith) ∙ sym (free-zero t ps f new cellCount below was-free (omega arith) (omega arith)))
           (λ i d _. other i cellCount (omega arith) d);
@@ -248,7 +252,9 @@ module _ (t : List ℕ) (ps : List Packet) (f : Facts t ps) (new : ℕ) (rest : 
         new-is-root = unfold isRoot in or-left (isNamed (ps ++ (make ∷ [])) (suc new)) (lt-ltb 0 (wordAt u new rootCount) (omega (arith, new-root)))
 
         stays : (j : ℕ) → 0 < wordAt t j rootCount → 0 < wordAt u j rootCount
-        stays = each-cell (λ j. 0 < wordAt t j rootCount → 0 < wordAt u j rootCount) (λ _. omega (arith, new-root)) (λ j d h. rw (other j rootCount (omega arith) d) h)
+        stays =
+            each-cell (λ j. 0 < wordAt t j rootCount → 0 < wordAt u j rootCount) (λ _. omega (arith, new-root))
+            (λ j d h. rw (other j rootCount (omega arith) d) h)
 
         edges : (j k : ℕ) → Reached t ps j → k < capacity t → pointsTo t j k ≡ true → (pointsTo u j k ≡ true) ⊎ (isRoot u (ps ++ (make ∷ [])) k ≡ true)
         edges j k r _ h =
@@ -258,4 +264,6 @@ module _ (t : List ℕ) (ps : List Packet) (f : Facts t ps) (new : ℕ) (rest : 
             inl (points-by u j k (w .0) (w .1) (other j (w .0) (omega arith) (λ d. not-both (rw d at e) was-free) ∙ w .2))
 
         old : (j : ℕ) → j ≢ new → j < capacity u → inUse u j ≡ true → Reached u (ps ++ (make ∷ [])) j
-        old j d m e = reached-grows t u ps (ps ++ (make ∷ [])) same-capacity (λ k _. root-stays t u ps make k (stays k)) edges (live j (rw same-capacity at m) (sym (same-use j d) ∙ e))
+        old j d m e =
+            reached-grows t u ps (ps ++ (make ∷ [])) same-capacity (λ k _. root-stays t u ps make k (stays k)) edges
+            (live j (rw same-capacity at m) (sym (same-use j d) ∙ e))

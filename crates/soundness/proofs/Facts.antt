@@ -79,7 +79,8 @@ cell-facts t i m h =
     fields : isFree t i || (fieldSound t (wordAt t i left) && fieldSound t (wordAt t i right)) ≡ true → inUse t i ≡ true → (k : ℕ) → k ≤ right → Fit t (wordAt t i k)
     fields o u =
         let both : fieldSound t (wordAt t i left) && fieldSound t (wordAt t i right) ≡ true =
-        ⊎-elim (λ e. absurd (not-both u (free-not-in-use t i e))) (λ e. e) (or-true (isFree t i) (fieldSound t (wordAt t i left) && fieldSound t (wordAt t i right)) o) in
+        ⊎-elim (λ e. absurd (not-both u (free-not-in-use t i e))) (λ e. e)
+        (or-true (isFree t i) (fieldSound t (wordAt t i left) && fieldSound t (wordAt t i right)) o) in
         each-field (λ k. Fit t (wordAt t i k))
         (field-fit t (wordAt t i left) m (and-first (fieldSound t (wordAt t i left)) (fieldSound t (wordAt t i right)) both))
         (field-fit t (wordAt t i right) m (and-second (fieldSound t (wordAt t i left)) (fieldSound t (wordAt t i right)) both))
@@ -89,7 +90,8 @@ unfolding cellSound
 facts-cell t i c =
     and-both (and-both (and-both (le-leb (wordAt t i state) 1 (c .state)) (le-leb (wordAt t i rootCount) ceiling (c .roots)))
     (le-leb (wordAt t i cellCount) ceiling (c .cells)))
-    (⊎-elim (λ u. or-right (isFree t i) (and-both (fit-field t (wordAt t i left) (c .fields left (omega arith) u)) (fit-field t (wordAt t i right) (c .fields right (omega arith) u))))
+    (⊎-elim (λ u. or-right (isFree t i) (and-both (fit-field t (wordAt t i left) (c .fields left (omega arith) u))
+    (fit-field t (wordAt t i right) (c .fields right (omega arith) u))))
     (λ u. or-left (fieldSound t (wordAt t i left) && fieldSound t (wordAt t i right)) (not-in-use-free t i u)) (tested (inUse t i)))
 
 module _ (t : List ℕ) (q : Queue) (s : Sound t q) where
@@ -195,17 +197,21 @@ facts-sound t q n f l = record {
     };
     queue = n .shape;
   });
-  cells = every-all (capacity t) (cellSound t) (λ i m. facts-cell t i (record { state = f .states i m; roots = f .roots i m; cells = f .cells i m; fields = λ k. f .fields i k m }));
+  cells = every-all (capacity t) (cellSound t)
+      (λ i m. facts-cell t i (record { state = f .states i m; roots = f .roots i m; cells = f .cells i m; fields = λ k. f .fields i k m }));
   chain = chain-is t .1 (f .free, f .chain);
-  packets = and-both (and-both (n .others) (legal-packets t (waiting q) (f .legal))) (every-all (capacity t) (λ i. replays (suc i) (wordAt t i rootCount) (waiting q)) (f .replay));
+  packets = and-both (and-both (n .others) (legal-packets t (waiting q) (f .legal)))
+      (every-all (capacity t) (λ i. replays (suc i) (wordAt t i rootCount) (waiting q)) (f .replay));
   pointed = and-both (stages-undoes t (f .room) (waiting q) (f .legal) (f .stages))
-      (every-all (capacity t) (λ j. eqb (wordAt t j cellCount) (pointers (before t (waiting q)) (suc j))) (λ i m. eq-eqb (wordAt t i cellCount) (pointers (before t (waiting q)) (suc i))
+      (every-all (capacity t) (λ j. eqb (wordAt t j cellCount) (pointers (before t (waiting q)) (suc j)))
+      (λ i m. eq-eqb (wordAt t i cellCount) (pointers (before t (waiting q)) (suc i))
       (f .counts i m
       ∙ sym (seen-same (capacity t) (shown (before t (waiting q))) (earlier (shown t) (waiting q)) (suc i) (before-shown t (f .room) (waiting q) (f .legal)))
       ∙ sym (ap (λ (c : ℕ). seen c (shown (before t (waiting q))) (suc i)) (before-capacity t (f .room) (waiting q) (f .legal)))
       ∙ sym (pointers-seen (before t (waiting q)) i))));
   live = every-all (capacity t) (λ i. isFree t i || reached t (waiting q) i) (λ i m.
-      ⊎-elim (λ u. or-right (isFree t i) (reached-is t (waiting q) i .1 (l i m u))) (λ u. or-left (reached t (waiting q) i) (not-in-use-free t i u)) (tested (inUse t i)));
+      ⊎-elim (λ u. or-right (isFree t i) (reached-is t (waiting q) i .1 (l i m u))) (λ u. or-left (reached t (waiting q) i) (not-in-use-free t i u))
+      (tested (inUse t i)));
 }
 
 -- all packets write to fields of cells

@@ -27,8 +27,8 @@ use Rattle.soundness.proofs.Views.{nil-no-cell, View, shown, entries, s
 use Rattle.soundness.proofs.LegalPackets.{Fit, fit-nil, LegalPacket, WrittenIn, legal-written, legal-detached, written-map}
 use Rattle.soundness.proofs.Stages.{shown-used, shown-free}
 use Rattle.soundness.proofs.Facts.{Facts, Live, last-within, free-zero, all-below}
-use Rattle.soundness.proofs.NewPacket.{chain-free, reached-used, reached-grows}
-use Rattle.soundness.proofs.Replace.{points-by, points-cases}
+use Rattle.soundness.proofs.FreeChain.{chain-free}
+use Rattle.soundness.proofs.ReachedCells.{points-by, points-cases, reached-used, reached-grows}
 use Rattle.soundness.proofs.Masks.{mask, masked, unmasked, WritesShown, mask-earlier, unwritten-earlier, seen-split, mask-stages}
 
 -- the pointers out of the cells that pass a test, as a sum
@@ -133,7 +133,8 @@ module _ (t : List ℕ) (ps : List Packet) (f : Facts t ps) where
     where
       no-root : (i : ℕ) → i < c → live i ≡ false → wordAt t i rootCount ≡ 0
       no-root i l h =
-          ⊎-elim (λ e. absurd (not-both (reached-live (begun l (or-left (isNamed ps (suc i)) e))) h)) (λ e. let z = ltb-false 0 (wordAt t i rootCount) e in omega arith)
+          ⊎-elim (λ e. absurd (not-both (reached-live (begun l (or-left (isNamed ps (suc i)) e))) h))
+          (λ e. let z = ltb-false 0 (wordAt t i rootCount) e in omega arith)
           (tested (ltb 0 (wordAt t i rootCount)))
 
   -- a word that was fit and, if a cell, is reached, is fit
@@ -159,7 +160,8 @@ module _ (t : List ℕ) (ps : List Packet) (f : Facts t ps) where
 
   writes-live : All (WritesShown live) ps
   writes-live = all-map (LegalPacket u) (WritesShown live) ps
-      (λ p h. written-map (WrittenIn u) (λ i k. live i ≡ true) p (λ i k w. used-live i (rw swept-capacity at (w .below)) (w .used)) (legal-written u p h)) legal-after
+      (λ p h. written-map (WrittenIn u) (λ i k. live i ≡ true) p (λ i k w. used-live i (rw swept-capacity at (w .below)) (w .used))
+      (legal-written u p h)) legal-after
 
   field-fits : (i k : ℕ) → i < c → k ≤ right → live i ≡ true → Fit u (wordAt u i k)
   field-fits i k l m h =
@@ -230,7 +232,8 @@ module _ (t : List ℕ) (ps : List Packet) (f : Facts t ps) where
       at-index = each-sort (λ i. i < c → entries (mask (λ i. not (live i)) e) (suc x) i ≡ cond (doomed i) (fieldsAt t (suc x) i) 0)
           (λ i h _. unfold entries mask in rw (h, live-used i h) (omega (arith, nil-no-cell x)))
           (λ i h d _. unfold entries mask fieldsAt in rw (h, d, untouched i left h, untouched i right h, shown-used t i left d, shown-used t i right d))
-          (λ i h d _. unfold entries mask in rw (h, d, untouched i left h, untouched i right h, shown-free t i left d, shown-free t i right d) (omega (arith, nil-no-cell x)))
+          (λ i h d _. unfold entries mask in rw (h, d, untouched i left h, untouched i right h, shown-free t i left d, shown-free t i right d)
+          (omega (arith, nil-no-cell x)))
 
   -- no lowering meets 0
   pub swept-enough : (i : ℕ) → i < c → pointersOut t dead (suc i) ≤ wordAt t i cellCount
@@ -250,13 +253,15 @@ module _ (t : List ℕ) (ps : List Packet) (f : Facts t ps) where
       )
 
       shown-fit : (j k : ℕ) → j < c → k ≤ right → Fit u (shown u j k)
-      shown-fit j k b m = ⊎-elim (λ e. rw (shown-used u j k e) (field-fits j k b m (used-live j b e))) (λ e. rw (shown-free u j k e) (fit-nil u)) (tested (inUse u j))
+      shown-fit j k b m =
+          ⊎-elim (λ e. rw (shown-used u j k e) (field-fits j k b m (used-live j b e))) (λ e. rw (shown-free u j k e) (fit-nil u)) (tested (inUse u j))
 
       gone : live i ≡ false → wordAt u i cellCount ≡ seen c (earlier (shown u) ps) (suc i)
       gone h =
           wiped i cellCount l h (omega arith) (omega arith)
           ∙ sym (seen-none c (earlier (shown u) ps) (suc i) (λ j k b m e. not-both
-          (earlier-entries (Fit u) c (shown u) ps (fit-nil u) (all-map (LegalPacket u) (Detached (Fit u)) ps (legal-detached u) legal-after) shown-fit j k b m .used i (rw swept-capacity l) e)
+          (earlier-entries (Fit u) c (shown u) ps (fit-nil u)
+          (all-map (LegalPacket u) (Detached (Fit u)) ps (legal-detached u) legal-after) shown-fit j k b m .used i (rw swept-capacity l) e)
           (swept-use i l ∙ h)))
 
   pub swept-facts : Facts u ps

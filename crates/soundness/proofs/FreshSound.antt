@@ -80,7 +80,8 @@ module _ (c : ℕ) (t u : List ℕ) (some : 1 ≤ c) (most : c ≤ mostCells) (r
   fresh-chain = record {
     linked = rw (first-up c refl) (linked-up 0 c (omega arith));
     ends = last-up c refl;
-    once = λ i l. let m : i < c = rw (f .newCapacity) at l in up-once 0 c i (omega arith) (omega arith) ∙ sym (ap (λ (b : Bool). cond b 1 0) (not-in-use-free u i (unused i m)));
+    once = λ i l. let m : i < c = rw (f .newCapacity) at l in up-once 0 c i (omega arith) (omega arith)
+        ∙ sym (ap (λ (b : Bool). cond b 1 0) (not-in-use-free u i (unused i m)));
     wiped = λ i k l _ low high. f .zeros i k (rw (f .newCapacity) at l) low high;
   }
 

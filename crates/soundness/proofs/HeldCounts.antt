@@ -41,11 +41,13 @@ unfolding final
 final-most x n [] l h = l
 final-most x n (p ∷ ps) l h = final-most x (replayed x p n) ps (leb-true (replayed x p n) ceiling (replays-bound x n p ps h)) (replays-rest x n p ps h)
 
-replays-cons : (x n : ℕ) (p : Packet) (ps : List Packet) → uses p x ≤ n → replayed x p n ≤ ceiling → replays x (replayed x p n) ps ≡ true → replays x n (p ∷ ps) ≡ true
+replays-cons : (x n : ℕ) (p : Packet) (ps : List Packet) → uses p x ≤ n → replayed x p n ≤ ceiling → replays x (replayed x p n) ps ≡ true
+    → replays x n (p ∷ ps) ≡ true
 unfolding replays
 replays-cons x n p ps h g r = and-both (and-both (le-leb (uses p x) n h) (le-leb (replayed x p n) ceiling g)) r
 
-replay-snoc : (x n : ℕ) (ps : List Packet) (p : Packet) → replays x n ps ≡ true → uses p x ≤ final x n ps → replayed x p (final x n ps) ≤ ceiling → replays x n (ps ++ (p ∷ [])) ≡ true
+replay-snoc : (x n : ℕ) (ps : List Packet) (p : Packet) → replays x n ps ≡ true → uses p x ≤ final x n ps → replayed x p (final x n ps) ≤ ceiling
+    → replays x n (ps ++ (p ∷ [])) ≡ true
 unfolding final
 replay-snoc x n [] p h u b = replays-cons x n p [] u b (unfold replays in refl)
 replay-snoc x n (q ∷ ps) p h u b =

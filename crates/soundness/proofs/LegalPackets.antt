@@ -34,7 +34,8 @@ atom-no-cell c w m h i l e = omega (arith, leb-true 32768 w (and-first (leb 3276
 pub field-fit : (t : List ℕ) (w : ℕ) → capacity t ≤ mostCells → fieldSound t w ≡ true → Fit t w
 unfolding fieldSound isLegal
 field-fit t w m h =
-    ⊎-elim (λ e. ⊎-elim nil atom (or-true (isNil w) (isAtom w) e)) (λ e. number (and-first (isCell (capacity t) w) (inUse t (pred w)) e) (and-second (isCell (capacity t) w) (inUse t (pred w)) e))
+    ⊎-elim (λ e. ⊎-elim nil atom (or-true (isNil w) (isAtom w) e))
+    (λ e. number (and-first (isCell (capacity t) w) (inUse t (pred w)) e) (and-second (isCell (capacity t) w) (inUse t (pred w)) e))
     (or-true (isNil w || isAtom w) (isCell (capacity t) w && inUse t (pred w)) h)
   where
     zero-word : isNil w ≡ true → w ≡ 0
@@ -62,6 +63,15 @@ fit-field t w f =
 pub fit-grows : (t u : List ℕ) (w : ℕ) → capacity u ≡ capacity t → ((i : ℕ) → i < capacity t → inUse t i ≡ true → inUse u i ≡ true) → Fit t w → Fit u w
 fit-grows t u w c g f = record { legal = rw c (f .legal); used = λ i l e. g i (rw c at l) (f .used i (rw c at l) e) }
 
+-- a cell is a legal word
+pub cell-legal : (c w : ℕ) → isCell c w ≡ true → isLegal c w ≡ true
+unfolding isLegal
+cell-legal c w h = or-left (isAtom w) (or-right (isNil w) h)
+
+-- a cell that is fit is in use
+pub cell-used : (t : List ℕ) (x : ℕ) → isCell (capacity t) x ≡ true → Fit t x → inUse t (pred x) ≡ true
+cell-used t x h f = f .used (pred x) (cell-place (capacity t) x h) (cell-number (capacity t) x h)
+
 -- S3's demands on one packet
 pub record LegalPacket (t : List ℕ) (p : Packet) : Type 0 where
   pub words : packetLegal t p ≡ true
@@ -85,9 +95,22 @@ legal-packets t [] h = refl
 legal-packets t (p ∷ ps) h =
     and-both (and-both (h .0 .words) (everyOf-all (names p) (fieldSound t) (λ w c. fit-field t w (h .0 .names w c)))) (legal-packets t ps (h .1))
 
-pub legal-grows : (t u : List ℕ) (p : Packet) → capacity u ≡ capacity t → ((i : ℕ) → i < capacity t → inUse t i ≡ true → inUse u i ≡ true) → LegalPacket t p → LegalPacket u p
+pub legal-grows : (t u : List ℕ) (p : Packet) → capacity u ≡ capacity t → ((i : ℕ) → i < capacity t → inUse t i ≡ true → inUse u i ≡ true)
+    → LegalPacket t p → LegalPacket u p
 unfolding packetLegal
 legal-grows t u p c g h = record { words = rw c (h .words); names = λ w n. fit-grows t u w c g (h .names w n) }
+
+-- what is said of one word or of three is said of each that a packet of them names
+pub names-one : (P : ℕ → Type 0) (a : ℕ) → P a → (w : ℕ) → contains (a ∷ []) w ≡ true → P w
+unfolding contains
+names-one P a h w c = ⊎-elim (λ e. rw (eqb-true a w e) at h) (λ e. absurd (false≢true e)) (or-true (eqb a w) false c)
+
+pub names-three : (P : ℕ → Type 0) (a b c : ℕ) → P a → P b → P c → (w : ℕ) → contains (a ∷ b ∷ c ∷ []) w ≡ true → P w
+unfolding contains
+names-three P a b c ha hb hc w h =
+    ⊎-elim (λ e. rw (eqb-true a w e) at ha)
+    (λ e. ⊎-elim (λ d. rw (eqb-true b w d) at hb) (λ d. names-one P c hc w d) (or-true (eqb b w) (contains (c ∷ []) w) e))
+    (or-true (eqb a w) (contains (b ∷ c ∷ []) w) h)
 
 -- a waiting packet names only fit words
 pub named-fit : (t : List ℕ) (ps : List Packet) → All (LegalPacket t) ps → (w : ℕ) → isNamed ps w ≡ true → Fit t w
@@ -133,9 +156,11 @@ unfolding packetLegal names wordsOfKind namesOf
 legal-written t p h = go (kindOf (p .kind)) (p .a) (p .b) (p .c) (kind-field (p .kind)) (h .words) (h .names)
   where
     at-cell : (c k : ℕ) → k ≤ right → isCell (capacity t) c ≡ true → Fit t c → WrittenIn t (pred c) k
-    at-cell c k f e n = record { below = cell-place (capacity t) c e; field = f; used = n .used (pred c) (cell-place (capacity t) c e) (cell-number (capacity t) c e) }
+    at-cell c k f e n =
+        record { below = cell-place (capacity t) c e; field = f; used = n .used (pred c) (cell-place (capacity t) c e) (cell-number (capacity t) c e) }
 
-    go : (n : Kind) (a b c : ℕ) → FieldOf n → wordsOfKind (capacity t) n a b c ≡ true → ((w : ℕ) → contains (namesOf n a b c) w ≡ true → Fit t w) → WrittenOf (WrittenIn t) n c
+    go : (n : Kind) (a b c : ℕ) → FieldOf n → wordsOfKind (capacity t) n a b c ≡ true → ((w : ℕ) → contains (namesOf n a b c) w ≡ true → Fit t w)
+        → WrittenOf (WrittenIn t) n c
     go reads a b c f w g = tt
     go makes a b c f w g =
         let e = and-second (isLegal (capacity t) a && isLegal (capacity t) b) (isCell (capacity t) c) w in

@@ -4,8 +4,10 @@ pub mod PacketKinds
 pub mod Views
 pub mod LegalPackets
 pub mod Stages
--- the plain facts of a sound store, from S1 to S5 and back
+-- the plain facts of a sound store, from S1 to S5 and back; its free chain, its reached cells, its slots not waiting
 pub mod Facts
+pub mod FreeChain
+pub mod ReachedCells
 pub mod ZeroSlots
 -- fresh
 pub mod FreshSound

@@ -84,7 +84,8 @@ module _ (c : ℕ) (m : ℕ → Bool) where
       go : (n : Kind) (x y z : ℕ) → WrittenOf (λ i k. m i ≡ true) n z → undoneView n x y z u i k ≡ u i k
       go reads x y z w = refl
       go makes x y z w =
-          put-other (putView u (pred z) left 0) (pred z) right 0 i k (λ d _. apart (pred z) (w .1) d) ∙ put-other u (pred z) left 0 i k (λ d _. apart (pred z) (w .0) d)
+          put-other (putView u (pred z) left 0) (pred z) right 0 i k (λ d _. apart (pred z) (w .1) d)
+          ∙ put-other u (pred z) left 0 i k (λ d _. apart (pred z) (w .0) d)
       go (replaces f) x y z w = put-other u (pred z) f y i k (λ d _. apart (pred z) w d)
       go raises x y z w = refl
       go lowers x y z w = refl
@@ -98,7 +99,9 @@ module _ (c : ℕ) (m : ℕ → Bool) where
       ∙ total-add c (entries (mask m v) (suc x)) (entries (mask (λ j. not (m j)) v) (suc x))
     where
       at-index : (i : ℕ) → entries v (suc x) i ≡ entries (mask m v) (suc x) i + entries (mask (λ j. not (m j)) v) (suc x) i
-      at-index i = unfold entries mask in ⊎-elim (λ (e : m i ≡ true). rw e (omega (arith, nil-no-cell x))) (λ (e : m i ≡ false). rw e (omega (arith, nil-no-cell x))) (tested (m i))
+      at-index i =
+          unfold entries mask in ⊎-elim (λ (e : m i ≡ true). rw e (omega (arith, nil-no-cell x))) (λ (e : m i ≡ false). rw e (omega (arith, nil-no-cell x)))
+          (tested (m i))
 
   mask-within : (v : View) → WithinView c v → WithinView c (mask m v)
   mask-within v h i l = omega (arith, seen-split v i, h i l)

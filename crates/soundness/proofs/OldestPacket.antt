@@ -21,7 +21,7 @@ use Rattle.soundness.proofs.PacketKinds.{lowers-uses, Unmoved, unnamed,
 use Rattle.soundness.proofs.Views.{shown, Same, same-sym, all-map, earlier, earlier-same, seen, seen-same, seen-undo, stages-same, stages-within}
 use Rattle.soundness.proofs.LegalPackets.{fit-grows, LegalPacket, legal-grows}
 use Rattle.soundness.proofs.Facts.{Facts, all-below, free-unnamed}
-use Rattle.soundness.proofs.NewPacket.{chain-same}
+use Rattle.soundness.proofs.FreeChain.{chain-same}
 
 first-applied : (t : List ℕ) (hs : List Change) → firstFree (applyChanges t hs) ≡ firstFree t
 unfolding applyChanges
@@ -60,7 +60,8 @@ module _ (t : List ℕ) (p : Packet) (ps : List Packet) (f : Facts t (p ∷ ps))
   -- root counts go on as in the replay
   pub applied-root : (i : ℕ) → i < capacity t → wordAt applied i rootCount ≡ replayed (suc i) p (wordAt t i rootCount)
   unfolding replayed
-  applied-root i l = count-applied t (changes p) root i (f .room) l ∙ running-root p (suc i) (wordAt t i rootCount) (omega (arith, enough i l, lowers-uses p (suc i)))
+  applied-root i l =
+      count-applied t (changes p) root i (f .room) l ∙ running-root p (suc i) (wordAt t i rootCount) (omega (arith, enough i l, lowers-uses p (suc i)))
 
   -- cell counts become the pointers at the next stage
   pub applied-cell : (i : ℕ) → i < capacity t → wordAt applied i cellCount ≡ seen (capacity t) (earlier (shown t) ps) (suc i)
@@ -95,13 +96,16 @@ module _ (t : List ℕ) (p : Packet) (ps : List Packet) (f : Facts t (p ∷ ps))
     roots = λ i l. let m : i < c = rw applied-capacity at l in
         rw (applied-root i m) (leb-true (replayed (suc i) p (wordAt t i rootCount)) ceiling (replays-bound (suc i) (wordAt t i rootCount) p ps (f .replay i m)));
     cells = λ i l. let m : i < c = rw applied-capacity at l in rw (applied-cell i m) (stages-within c (shown t) ps (f .stages .0) i m);
-    fields = λ i k l m u. rw (applied-fields i k m) (fit-grows t applied (wordAt t i k) applied-capacity keeps (f .fields i k (rw applied-capacity at l) m (sym (applied-use i) ∙ u)));
+    fields = λ i k l m u. rw (applied-fields i k m) (fit-grows t applied (wordAt t i k) applied-capacity keeps
+        (f .fields i k (rw applied-capacity at l) m (sym (applied-use i) ∙ u)));
     free = f .free;
-    chain = chain-same t applied (f .free) applied-capacity (first-applied t (changes p)) (framed-changes t (changes p) .1) (λ i _. applied-use i) free-words (f .chain);
+    chain = chain-same t applied (f .free) applied-capacity (first-applied t (changes p)) (framed-changes t (changes p) .1) (λ i _. applied-use i) free-words
+        (f .chain);
     legal = all-map (LegalPacket t) (LegalPacket applied) ps (λ r. legal-grows t applied r applied-capacity keeps) (f .legal .1);
     replay = λ i l. let m : i < c = rw applied-capacity at l in rw (applied-root i m) (replays-rest (suc i) (wordAt t i rootCount) p ps (f .replay i m));
     stages = rw applied-capacity (stages-same c (shown t) (shown applied) ps same (all-below t (p ∷ ps) f .1) (f .stages .0));
-    counts = rw applied-capacity (λ (i : ℕ) (l : i < c). applied-cell i l ∙ seen-same c (earlier (shown t) ps) (earlier (shown applied) ps) (suc i) (earlier-same c (shown t) (shown applied) ps same));
+    counts = rw applied-capacity (λ (i : ℕ) (l : i < c). applied-cell i l
+        ∙ seen-same c (earlier (shown t) ps) (earlier (shown applied) ps) (suc i) (earlier-same c (shown t) (shown applied) ps same));
   }
     where
       c : ℕ

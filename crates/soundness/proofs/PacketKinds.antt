@@ -113,7 +113,8 @@ pub named-snoc : (ps : List Packet) (p : Packet) (x : ℕ) → (isNamed ps x ≡
 unfolding isNamed
 named-snoc [] p x h = ⊎-elim (λ (e : false ≡ true). absurd (false≢true e)) (λ e. or-left false e) h
 named-snoc (q ∷ ps) p x h =
-    ⊎-elim (λ e. ⊎-elim (λ d. or-left (isNamed (ps ++ (p ∷ [])) x) d) (λ d. or-right (contains (names q) x) (named-snoc ps p x (inl d))) (or-true (contains (names q) x) (isNamed ps x) e))
+    ⊎-elim (λ e. ⊎-elim (λ d. or-left (isNamed (ps ++ (p ∷ [])) x) d) (λ d. or-right (contains (names q) x) (named-snoc ps p x (inl d)))
+    (or-true (contains (names q) x) (isNamed ps x) e))
     (λ e. or-right (contains (names q) x) (named-snoc ps p x (inr e))) h
 
 -- a count run through a list of changes, and the counters of a table to which the changes are made

@@ -34,7 +34,8 @@ some-or-none : (n : ℕ) → (0 < n) ⊎ (n ≡ 0)
 some-or-none zero = inr refl
 some-or-none (suc n) = inl (omega arith)
 
-module _ (t : List ℕ) (q : Queue) (s : Sound t q) (r : RowCall) (early : AllYes (earlyRow t r)) (held : HeldFor t (waiting q) (packetOf t r)) (free : AllYes (askFree t r)) where
+module _ (t : List ℕ) (q : Queue) (s : Sound t q) (r : RowCall) (early : AllYes (earlyRow t r)) (held : HeldFor t (waiting q) (packetOf t r))
+    (free : AllYes (askFree t r)) where
   abbrev p : Packet
   p = packetOf t r
 
@@ -63,7 +64,8 @@ module _ (t : List ℕ) (q : Queue) (s : Sound t q) (r : RowCall) (early : AllYe
       each : (i : ℕ) → i < capacity t → Raises cell i → pointers u (suc i) ≤ ceiling
       each i l g =
           let w = wrote-pointers t u p wrote i in
-          ⊎-elim (λ z. let h = g z in omega (arith, pointers-counted t q s i l)) (λ z. omega (arith, pointers-most t q s i l)) (some-or-none (moves cell plus p (suc i)))
+          ⊎-elim (λ z. let h = g z in omega (arith, pointers-counted t q s i l)) (λ z. omega (arith, pointers-most t q s i l))
+          (some-or-none (moves cell plus p (suc i)))
 
   -- the held count after the call
   abbrev AtMost : ℕ → Type 0
@@ -71,7 +73,8 @@ module _ (t : List ℕ) (q : Queue) (s : Sound t q) (r : RowCall) (early : AllYe
 
   raised-root : (i : ℕ) → i < capacity t → AtMost i → Raises root i
   raised-root i l h z =
-      ⊎-elim (λ e. omega (arith, waiting-snoc root plus (suc i) ps p, waiting-snoc root minus (suc i) ps p)) (λ e. absurd (omega (arith, e .2))) (row-root t ps f r free i l)
+      ⊎-elim (λ e. omega (arith, waiting-snoc root plus (suc i) ps p, waiting-snoc root minus (suc i) ps p)) (λ e. absurd (omega (arith, e .2)))
+      (row-root t ps f r free i l)
 
   -- a root count is as it was, but for cons's new cell, which was free
   root-raised : (i : ℕ) → i < capacity t → Raises root i → AtMost i

@@ -1,34 +1,27 @@
 -- The calls that write no field: car, cdr, up and down.
 use mathlib.Core.Path.{_≡_, refl}
-use mathlib.Core.Logic.{inl, ⊎-elim}
-use mathlib.Core.Bool.{true, false, false≢true}
+use mathlib.Core.Logic.{inl}
+use mathlib.Core.Bool.{true}
 use mathlib.Core.List.{List, [], _∷_, _++_}
 use Prim.Native.Nat.{ℕ, suc, pred, _≤_, _<_}
 use native.Mathlib.Omega.{arith}
-use lib.Dec.{eqb, leb}
-use borrow.Author.Tests.{eqb-true, leb-true}
-use Rattle.machine.specs.Words.{isNil, isCell, isAtom, isLegal, ceiling}
-use Rattle.machine.specs.Table.{right, capacity, wordAt, inUse}
+use lib.Dec.{leb}
+use borrow.Author.Tests.{leb-true}
+use Rattle.machine.specs.Words.{isCell, ceiling}
+use Rattle.machine.specs.Table.{right, capacity, wordAt}
 use Rattle.machine.specs.Queue.{Packet, packet}
-use Rattle.machine.specs.Packets.{Kind, reads, makes, replaces, raises, lowers, unknown, kindOf, namesOf, names, usesOf, uses, contains}
+use Rattle.machine.specs.Packets.{Kind, reads, makes, replaces, raises, lowers, unknown, kindOf, namesOf, names, usesOf, uses}
 use Rattle.machine.specs.Questions.{numberInRange}
 use Rattle.machine.specs.Audit.{wordsOfKind, packetLegal}
-use Rattle.machine.proofs.Range.{or-true, or-left, or-right, and-both, and-first, matching-same}
-use Rattle.machine.proofs.Words.{cell-place, cell-number}
+use Rattle.machine.proofs.Range.{and-both, and-first, matching-same}
+use Rattle.machine.proofs.Words.{cell-place}
 use Rattle.soundness.proofs.Views.{shown, Same, undoneView, HoldsOf, WrittenOf}
-use Rattle.soundness.proofs.LegalPackets.{Fit, fit-nil, LegalPacket}
+use Rattle.soundness.proofs.LegalPackets.{Fit, fit-nil, cell-legal, cell-used, names-one, names-three, LegalPacket}
 use Rattle.soundness.proofs.Facts.{Facts, Live}
 use Rattle.soundness.proofs.HeldCounts.{replay-append}
-use Rattle.soundness.proofs.NewPacket.{Wrote, append-facts, operand-fit, reached-grows, root-stays}
+use Rattle.soundness.proofs.ReachedCells.{reached-grows, root-stays}
+use Rattle.soundness.proofs.NewPacket.{Wrote, append-facts, operand-fit}
 use Rattle.soundness.proofs.RowQuestions.{Passed}
-
-pub cell-legal : (c w : ℕ) → isCell c w ≡ true → isLegal c w ≡ true
-unfolding isLegal
-cell-legal c w h = or-left (isAtom w) (or-right (isNil w) h)
-
--- a cell that is fit is in use
-pub cell-used : (t : List ℕ) (x : ℕ) → isCell (capacity t) x ≡ true → Fit t x → inUse t (pred x) ≡ true
-cell-used t x h f = f .used (pred x) (cell-place (capacity t) x h) (cell-number (capacity t) x h)
 
 -- kinds whose calls write nothing
 abbrev pub Idle : Kind → Type 0
@@ -42,25 +35,14 @@ Idle unknown = Unit {0}
 pub wrote-nothing : (t : List ℕ) (n a b c : ℕ) → Idle (kindOf n) → Wrote t t (packet n a b c)
 wrote-nothing t n a b c h = let w = go (kindOf n) h in record { sameCapacity = refl; below = w .0; holds = w .1; undoes = w .2 }
   where
-    go : (k : Kind) → Idle k → WrittenOf (λ i m. (i < capacity t) × (m ≤ right)) k c × HoldsOf k a b c (shown t) × Same (capacity t) (undoneView k a b c (shown t)) (shown t)
+    go : (k : Kind) → Idle k
+        → WrittenOf (λ i m. (i < capacity t) × (m ≤ right)) k c × HoldsOf k a b c (shown t) × Same (capacity t) (undoneView k a b c (shown t)) (shown t)
     go reads h = (tt, tt, λ i m _ _. refl)
     go makes h = absurd h
     go (replaces k) h = absurd h
     go raises h = (tt, tt, λ i m _ _. refl)
     go lowers h = (tt, tt, λ i m _ _. refl)
     go unknown h = (tt, tt, λ i m _ _. refl)
-
--- what a packet names
-names-one : (P : ℕ → Type 0) (a : ℕ) → P a → (w : ℕ) → contains (a ∷ []) w ≡ true → P w
-unfolding contains
-names-one P a h w c = ⊎-elim (λ e. rw (eqb-true a w e) at h) (λ e. absurd (false≢true e)) (or-true (eqb a w) false c)
-
-pub names-three : (P : ℕ → Type 0) (a b c : ℕ) → P a → P b → P c → (w : ℕ) → contains (a ∷ b ∷ c ∷ []) w ≡ true → P w
-unfolding contains
-names-three P a b c ha hb hc w h =
-    ⊎-elim (λ e. rw (eqb-true a w e) at ha)
-    (λ e. ⊎-elim (λ d. rw (eqb-true b w d) at hb) (λ d. names-one P c hc w d) (or-true (eqb b w) (contains (c ∷ []) w) e))
-    (or-true (eqb a w) (contains (b ∷ c ∷ []) w) h)
 
 module _ (t : List ℕ) (ps : List Packet) (f : Facts t ps) where
   -- a packet whose call wrote nothing joins
@@ -91,7 +73,8 @@ module _ (t : List ℕ) (ps : List Packet) (f : Facts t ps) where
       read = packet 1 x (wordAt t (pred x) k) 0
 
       reader-fit : Fit t x
-      reader-fit = operand-fit t ps f read x (y .held) (cell-legal (capacity t) x cell) (λ i e. unfold uses usesOf kindOf in omega (arith, matching-same x (suc i) 1 e))
+      reader-fit =
+          operand-fit t ps f read x (y .held) (cell-legal (capacity t) x cell) (λ i e. unfold uses usesOf kindOf in omega (arith, matching-same x (suc i) 1 e))
 
       word-fit : Fit t (wordAt t (pred x) k)
       word-fit = f .fields (pred x) k (cell-place (capacity t) x cell) low (cell-used t x cell reader-fit)
@@ -111,7 +94,8 @@ module _ (t : List ℕ) (ps : List Packet) (f : Facts t ps) where
           unwritten-facts (packet 4 x n 0) y
           (record {
             words = and-both (and-both cell number) refl;
-            names = names-one (Fit t) x (operand-fit t ps f (packet 4 x n 0) x (y .held) (cell-legal (capacity t) x cell) (λ i e. omega (arith, matching-same x (suc i) 1 e)));
+            names = names-one (Fit t) x (operand-fit t ps f (packet 4 x n 0) x (y .held) (cell-legal (capacity t) x cell)
+                (λ i e. omega (arith, matching-same x (suc i) 1 e)));
           })
           (wrote-nothing t 4 x n 0 tt)
 

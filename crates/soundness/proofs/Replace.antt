@@ -3,40 +3,28 @@ use mathlib.Core.Path.{_≡_, sym, _∙_}
 use mathlib.Core.Logic.{_⊎_, inl, inr, ⊎-elim}
 use mathlib.Core.Bool.{true, false, cond, _&&_}
 use mathlib.Core.List.{List, [], _∷_, _++_}
-use Prim.Native.Nat.{ℕ, zero, suc, pred, _≤_, _<_}
+use Prim.Native.Nat.{ℕ, suc, pred, _≤_, _<_}
 use native.Mathlib.Omega.{arith}
 use lib.Dec.{eqb}
-use borrow.Author.Tests.{eqb-true, eq-eqb}
+use borrow.Author.Tests.{eqb-true}
 use Rattle.machine.specs.Words.{isCell, isLegal}
-use Rattle.machine.specs.Table.{stride, left, right, rootCount, cellCount, state, capacity, wordAt, putWord, inUse}
+use Rattle.machine.specs.Table.{stride, right, rootCount, cellCount, state, capacity, wordAt, putWord, inUse}
 use Rattle.machine.specs.Queue.{Packet, packet}
 use Rattle.machine.specs.Packets.{replaces, kindOf, namesOf, names, usesOf, uses, contains}
 use Rattle.machine.specs.Reached.{isRoot, pointsTo, Reached}
 use Rattle.machine.specs.Audit.{wordsOfKind, packetLegal}
-use Rattle.machine.proofs.Range.{tested, or-true, or-left, or-right, and-both, and-first, and-second, not-both, matching-same}
+use Rattle.machine.proofs.Range.{tested, and-both, and-first, and-second, not-both, matching-same}
 use Rattle.machine.proofs.Words.{cell-place}
 use Rattle.machine.proofs.Table.{room, word-put, word-other, length-putWord, capacity-putWord, firstFree-putWord, lastFree-putWord}
 use Rattle.soundness.proofs.Views.{shown, Same, putView, put-same}
-use Rattle.soundness.proofs.LegalPackets.{Fit, fit-grows, LegalPacket, WrittenIn, second-of}
+use Rattle.soundness.proofs.LegalPackets.{Fit, fit-grows, cell-legal, cell-used, names-three, LegalPacket, WrittenIn, second-of}
 use Rattle.soundness.proofs.Stages.{shown-used, used-put, shown-put}
 use Rattle.soundness.proofs.Facts.{Facts, Live}
 use Rattle.soundness.proofs.HeldCounts.{replay-append}
-use Rattle.soundness.proofs.NewPacket.{HeldFor, Wrote, append-facts, chain-same, operand-fit, reached-grows, root-stays, root-named}
+use Rattle.soundness.proofs.FreeChain.{chain-same}
+use Rattle.soundness.proofs.ReachedCells.{points-by, points-cases, reached-grows, root-stays, root-named}
+use Rattle.soundness.proofs.NewPacket.{HeldFor, Wrote, append-facts, operand-fit}
 use Rattle.soundness.proofs.RowQuestions.{Passed}
-use Rattle.soundness.proofs.ReadUpDown.{cell-legal, cell-used, names-three}
-
--- a pointer is a field that holds a cell's number
-pub points-by : (t : List ℕ) (j i k : ℕ) → k ≤ right → wordAt t j k ≡ suc i → pointsTo t j i ≡ true
-unfolding pointsTo
-points-by t j i zero l e = or-left (eqb (wordAt t j right) (suc i)) (eq-eqb (wordAt t j left) (suc i) e)
-points-by t j i (suc zero) l e = or-right (eqb (wordAt t j left) (suc i)) (eq-eqb (wordAt t j right) (suc i) e)
-points-by t j i (suc (suc k)) l e = absurd (omega arith)
-
-pub points-cases : (t : List ℕ) (j i : ℕ) → pointsTo t j i ≡ true → (k : ℕ) × (k ≤ right) × (wordAt t j k ≡ suc i)
-unfolding pointsTo
-points-cases t j i h =
-    ⊎-elim (λ e. (left, omega arith, eqb-true (wordAt t j left) (suc i) e)) (λ e. (right, omega arith, eqb-true (wordAt t j right) (suc i) e))
-    (or-true (eqb (wordAt t j left) (suc i)) (eqb (wordAt t j right) (suc i)) h)
 
 -- the field k of x gets y; n is the packet's kind
 module _ (t : List ℕ) (ps : List Packet) (f : Facts t ps) (n k x y : ℕ) (kind : kindOf n ≡ replaces k) (low : k ≤ right)
@@ -85,7 +73,8 @@ module _ (t : List ℕ) (ps : List Packet) (f : Facts t ps) (n k x y : ℕ) (kin
     field-fits : (i m : ℕ) → i < capacity t → m ≤ right → inUse u i ≡ true → Fit u (wordAt u i m)
     field-fits i m l h e =
         rw (word-put t (pred x) k y i m (room t (capacity t) (pred x) (f .room) below) (omega arith) (omega arith))
-        (⊎-elim (λ (c : eqb k m && eqb (pred x) i ≡ true). rw c (grows y y-fit)) (λ (c : eqb k m && eqb (pred x) i ≡ false). rw c (grows (wordAt t i m) (f .fields i m l h (sym (same-use i) ∙ e))))
+        (⊎-elim (λ (c : eqb k m && eqb (pred x) i ≡ true). rw c (grows y y-fit))
+        (λ (c : eqb k m && eqb (pred x) i ≡ false). rw c (grows (wordAt t i m) (f .fields i m l h (sym (same-use i) ∙ e))))
         (tested (eqb k m && eqb (pred x) i)))
 
     -- the free cells are as they were
@@ -138,7 +127,8 @@ module _ (t : List ℕ) (ps : List Packet) (f : Facts t ps) (n k x y : ℕ) (kin
       free = f .free;
       chain = chain-same t u (f .free) same-capacity (firstFree-putWord t (pred x) k y) (lastFree-putWord t (pred x) k y) (λ i _. same-use i) free-words (f .chain);
       legal = replace-legal;
-      replay = λ i l. rw (same-root i) (replay-append (suc i) (wordAt t i rootCount) ps replace (f .replay i l) (held i l) (rw (same-root i) at (a .most i (rw same-capacity l))));
+      replay = λ i l. rw (same-root i) (replay-append (suc i) (wordAt t i rootCount) ps replace (f .replay i l) (held i l)
+          (rw (same-root i) at (a .most i (rw same-capacity l))));
       within = rw same-capacity at (a .within);
     })
 
@@ -150,7 +140,9 @@ module _ (t : List ℕ) (ps : List Packet) (f : Facts t ps) (n k x y : ℕ) (kin
         named d = unfold names in rw kind (unfold namesOf in rw (← d) (second-of y detached (x ∷ [])))
 
         through : (b : ℕ) × (b ≤ right) × (wordAt t j b ≡ suc i) → (pointsTo u j i ≡ true) ⊎ (isRoot u (ps ++ (replace ∷ [])) i ≡ true)
-        through w = ⊎-elim (λ c. inr (root-named u ps replace i (named (here c)))) (λ c. inl (points-by u j i (w .0) (w .1) (there c ∙ w .2))) (tested (eqb k (w .0) && eqb (pred x) j))
+        through w =
+            ⊎-elim (λ c. inr (root-named u ps replace i (named (here c)))) (λ c. inl (points-by u j i (w .0) (w .1) (there c ∙ w .2)))
+            (tested (eqb k (w .0) && eqb (pred x) j))
           where
             here : eqb k (w .0) && eqb (pred x) j ≡ true → detached ≡ suc i
             here c =

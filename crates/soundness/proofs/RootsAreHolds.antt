@@ -66,19 +66,22 @@ pub record Agrees (t : List ℕ) (q : Queue) (h : ℕ → Holds) : Type 0 where
 pub fresh-agrees : (s : Store) (c : ℕ) → firstNo (questions s (fresh c)) ≡ 0 → Agrees (freshTable c (s .table)) emptyQueue (λ x. holds 0 0)
 fresh-agrees s c e = record {
   whole = fresh-whole s c e;
-  roots = rw waiting-empty (λ (i : ℕ) (l : i < capacity (freshTable c (s .table))). unfold waitingChange in omega (arith, fresh-roots c (s .table) (fresh-yes s c e .room) i l));
+  roots = rw waiting-empty (λ (i : ℕ) (l : i < capacity (freshTable c (s .table))).
+      unfold waitingChange in omega (arith, fresh-roots c (s .table) (fresh-yes s c e .room) i l));
   owed = λ i l. omega arith;
 }
 
 pub row-agrees : (s : Store) (r : RowCall) (h : ℕ → Holds) → Agrees (s .table) (s .queue) h → firstNo (questions s (row r)) ≡ 0
-    → Agrees (written (s .table) r) (appended (s .queue) (packetOf (s .table) r)) (λ x. holds (h x .gained + gains r (valueOf (s .table) r) x) (h x .given + gives r x))
+    → Agrees (written (s .table) r) (appended (s .queue) (packetOf (s .table) r))
+    (λ x. holds (h x .gained + gains r (valueOf (s .table) r) x) (h x .given + gives r x))
 unfolding accepted
 row-agrees s r h a e = record {
   whole = record { sound = row-sound s r (w .sound) (w .arrays) e; arrays = arrays-appended q p (w .arrays) };
   roots = rw (waiting-appended q p (w .arrays) (y .slot), same) (λ (i : ℕ) (l : i < capacity t).
       omega (arith, a .roots i l, row-moves t q f r y i l, waiting-snoc root plus (suc i) (waiting q) p, waiting-snoc root minus (suc i) (waiting q) p));
   owed = rw same (λ (i : ℕ) (l : i < capacity t).
-      ⊎-elim (λ z. omega (arith, a .owed i l, gives-uses t r (suc i))) (λ z. omega (arith, a .owed i l, a .roots i l, gives-uses t r (suc i))) (y .passed .held i l));
+      ⊎-elim (λ z. omega (arith, a .owed i l, gives-uses t r (suc i))) (λ z. omega (arith, a .owed i l, a .roots i l, gives-uses t r (suc i)))
+      (y .passed .held i l));
 }
   where
     t : List ℕ
@@ -102,7 +105,8 @@ row-agrees s r h a e = record {
     same : capacity (written t r) ≡ capacity t
     same = rw (machine-accepted s (row r) e) at (kept s (row r) .bounded .sameCapacity)
 
-pub step-agrees : (t : List ℕ) (q : Queue) (p : Packet) (ps : List Packet) (h : ℕ → Holds) → Agrees t q h → waiting q ≡ p ∷ ps → Agrees (stepTable t p ps) (taken q) h
+pub step-agrees : (t : List ℕ) (q : Queue) (p : Packet) (ps : List Packet) (h : ℕ → Holds) → Agrees t q h → waiting q ≡ p ∷ ps
+    → Agrees (stepTable t p ps) (taken q) h
 step-agrees t q p ps h a e = record {
   whole = record { sound = step-sound t q p ps (w .sound) (w .arrays) e; arrays = arrays-taken q (w .arrays) };
   roots = rw (waiting-rest q p ps (slots-of t q (w .sound)) e, same) (λ (i : ℕ) (l : i < capacity t).
@@ -113,7 +117,8 @@ step-agrees t q p ps h a e = record {
         waiting-cons root minus (suc i) p ps,
         swept-root u ps g i (rw (applied-capacity t p ps f) l),
         applied-root t p ps f i l,
-        replayed-sum (suc i) (wordAt t i rootCount) p (leb-true (uses p (suc i)) (wordAt t i rootCount) (replays-uses (suc i) (wordAt t i rootCount) p ps (f .replay i l))),
+        replayed-sum (suc i) (wordAt t i rootCount) p (leb-true (uses p (suc i)) (wordAt t i rootCount)
+            (replays-uses (suc i) (wordAt t i rootCount) p ps (f .replay i l))),
       ));
   owed = rw same (a .owed);
 }

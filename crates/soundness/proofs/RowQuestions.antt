@@ -26,7 +26,8 @@ use Rattle.soundness.proofs.NewPacket.{HeldFor}
 -- questions 6, 9 and 10 about a call with the packet p that makes the table u of t
 pub record Passed (t u : List ℕ) (ps : List Packet) (p : Packet) : Type 0 where
   pub held : HeldFor t ps p
-  pub most : (i : ℕ) → i < capacity u → wordAt u i rootCount + waitingChange root plus (suc i) (ps ++ (p ∷ [])) ≤ ceiling + waitingChange root minus (suc i) (ps ++ (p ∷ []))
+  pub most : (i : ℕ) → i < capacity u
+      → wordAt u i rootCount + waitingChange root plus (suc i) (ps ++ (p ∷ [])) ≤ ceiling + waitingChange root minus (suc i) (ps ++ (p ∷ []))
   pub within : WithinView (capacity u) (shown u)
 
 -- all questions of a row call
@@ -63,14 +64,17 @@ late-yes s r h =
 pub held-test : (t : List ℕ) (ps : List Packet) (p : Packet) → heldEnough t ps p ≡ true → HeldFor t ps p
 unfolding heldEnough heldAtLeast
 held-test t ps p h i l =
-    ⊎-elim (λ e. inl (eqb-true (uses p (suc i)) 0 e)) (λ e. inr (leb-true (waitingChange root minus (suc i) ps + uses p (suc i)) (wordAt t i rootCount + waitingChange root plus (suc i) ps) e))
-    (or-true (eqb (uses p (suc i)) 0) (heldAtLeast t ps i (uses p (suc i))) (every-at (capacity t) (λ j. eqb (uses p (suc j)) 0 || heldAtLeast t ps j (uses p (suc j))) h i l))
+    ⊎-elim (λ e. inl (eqb-true (uses p (suc i)) 0 e))
+    (λ e. inr (leb-true (waitingChange root minus (suc i) ps + uses p (suc i)) (wordAt t i rootCount + waitingChange root plus (suc i) ps) e))
+    (or-true (eqb (uses p (suc i)) 0) (heldAtLeast t ps i (uses p (suc i)))
+    (every-at (capacity t) (λ j. eqb (uses p (suc j)) 0 || heldAtLeast t ps j (uses p (suc j))) h i l))
 
 pub most-test : (t : List ℕ) (ps : List Packet) → heldWithin t ps ≡ true → (i : ℕ) → i < capacity t
     → wordAt t i rootCount + waitingChange root plus (suc i) ps ≤ ceiling + waitingChange root minus (suc i) ps
 unfolding heldWithin heldAtMost
 most-test t ps h i l =
-    leb-true (wordAt t i rootCount + waitingChange root plus (suc i) ps) (ceiling + waitingChange root minus (suc i) ps) (every-at (capacity t) (λ j. heldAtMost t ps j ceiling) h i l)
+    leb-true (wordAt t i rootCount + waitingChange root plus (suc i) ps) (ceiling + waitingChange root minus (suc i) ps)
+    (every-at (capacity t) (λ j. heldAtMost t ps j ceiling) h i l)
 
 pub most-all : (t : List ℕ) (ps : List Packet)
     → ((i : ℕ) → i < capacity t → wordAt t i rootCount + waitingChange root plus (suc i) ps ≤ ceiling + waitingChange root minus (suc i) ps) → heldWithin t ps ≡ true

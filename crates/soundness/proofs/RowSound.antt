@@ -14,11 +14,12 @@ use Rattle.machine.specs.Audit.{Sound}
 use Rattle.machine.proofs.Ring.{waiting-appended}
 use Rattle.soundness.proofs.Facts.{Facts, Live, slots-of, sound-facts, sound-live, facts-sound}
 use Rattle.soundness.proofs.ZeroSlots.{slots-appended}
+use Rattle.soundness.proofs.FreeChain.{chain-some}
 use Rattle.soundness.proofs.RowQuestions.{Passed, RowYes, row-yes}
 use Rattle.soundness.proofs.ReadUpDown.{unwritten-live, read-facts, up-facts, down-facts}
 use Rattle.soundness.proofs.Replace.{replace-facts, replace-live}
 use Rattle.soundness.proofs.Cons.{cons-facts, cons-live}
-use Rattle.soundness.proofs.RowWrites.{chain-some, cons-case, first-legal, second-legal}
+use Rattle.soundness.proofs.RowWrites.{cons-case, first-legal, second-legal}
 
 pub record Kept (u : List ℕ) (ps : List Packet) : Type 0 where
   pub facts : Facts u ps
@@ -51,12 +52,14 @@ module _ (t : List ℕ) (q : Queue) (f : Facts t (waiting q)) (live : Live t (wa
   row-kept : (r : RowCall) → RowYes t q r → Kept (written t r) (ps ++ (packetOf t r ∷ []))
   unfolding earlyRow written packetOf field xIsCell kindOf
   row-kept (car x) a = record { facts = read-facts t ps f x (a .early .1 .0) left (omega arith) (a .passed); live = unwritten-live t ps f (packetOf t (car x)) live }
-  row-kept (cdr x) a = record { facts = read-facts t ps f x (a .early .1 .0) right (omega arith) (a .passed); live = unwritten-live t ps f (packetOf t (cdr x)) live }
+  row-kept (cdr x) a =
+      record { facts = read-facts t ps f x (a .early .1 .0) right (omega arith) (a .passed); live = unwritten-live t ps f (packetOf t (cdr x)) live }
   row-kept (cons x y) a = cons-kept x y a
   row-kept (setLeft x y) a = replace-kept 3 left x y refl (omega arith) (a .early .1 .0) (a .early .0) (a .passed)
   row-kept (setRight x y) a = replace-kept 6 right x y refl (omega arith) (a .early .1 .0) (a .early .0) (a .passed)
   row-kept (up x n) a = record { facts = up-facts t ps f x (a .early .1 .1 .0) n (a .early .0) (a .passed); live = unwritten-live t ps f (packetOf t (up x n)) live }
-  row-kept (down x n) a = record { facts = down-facts t ps f x (a .early .1 .1 .0) n (a .early .0) (a .passed); live = unwritten-live t ps f (packetOf t (down x n)) live }
+  row-kept (down x n) a =
+      record { facts = down-facts t ps f x (a .early .1 .1 .0) n (a .early .0) (a .passed); live = unwritten-live t ps f (packetOf t (down x n)) live }
 
 pub row-sound : (s : Store) (r : RowCall) → Sound (s .table) (s .queue) → Arrays (s .queue) → firstNo (questions s (row r)) ≡ 0
     → Sound (written (s .table) r) (appended (s .queue) (packetOf (s .table) r))

@@ -7,32 +7,24 @@ use Prim.Native.Nat.{ℕ, suc, pred, _+_, _<_}
 use native.Mathlib.Omega.{arith}
 use lib.Dec.{eqb}
 use borrow.Author.Tests.{eqb-true, eqb-false}
-use Rattle.machine.specs.Range.{matching, occurrences, everyOf}
+use Rattle.machine.specs.Range.{matching, everyOf}
 use Rattle.machine.specs.Words.{isLegal}
-use Rattle.machine.specs.Table.{left, right, rootCount, capacity, firstFree, wordAt, inUse, isFree}
+use Rattle.machine.specs.Table.{left, right, rootCount, capacity, firstFree, wordAt, inUse}
 use Rattle.machine.specs.Queue.{Packet, packet}
 use Rattle.machine.specs.Packets.{kindOf, root, plus, changesOf, changes, movedBy}
 use Rattle.machine.specs.Calls.{RowCall, car, cdr, cons, setLeft, setRight, up, down, field, packetOf, withoutFirst, written}
 use Rattle.machine.specs.Questions.{wordsLegal, xIsCell, cellFree, earlyRow, askFree}
 use Rattle.machine.specs.Facts.{Chain}
-use Rattle.machine.proofs.Range.{tested, and-first, and-second, exists-at, matching-same, matching-other}
+use Rattle.machine.proofs.Range.{tested, and-first, and-second, matching-same, matching-other}
 use Rattle.machine.proofs.Table.{word-other}
 use Rattle.machine.proofs.Questions.{AllYes}
 use Rattle.soundness.proofs.PacketKinds.{moves}
+use Rattle.soundness.proofs.FreeChain.{chain-some}
 use Rattle.soundness.proofs.Facts.{Facts, free-zero}
 use Rattle.soundness.proofs.NewPacket.{HeldFor, Wrote}
 use Rattle.soundness.proofs.ReadUpDown.{wrote-nothing}
 use Rattle.soundness.proofs.Replace.{replace-wrote}
 use Rattle.soundness.proofs.Cons.{withCell, was-free, cons-roots, cons-wrote}
-
--- where a cell is free the chain has a first cell
-pub chain-some : (t : List ℕ) (is : List ℕ) → Chain t is → cellFree t ≡ true → firstFree t ≢ 0
-unfolding cellFree
-chain-some t is h e z = some is h (exists-at (capacity t) (isFree t) e)
-  where
-    some : (is : List ℕ) → Chain t is → (i : ℕ) × (i < capacity t) × (isFree t i ≡ true) → ⊥
-    some [] h w = let o = rw (w .2) at (h .once (w .0) (w .1)) in let n : occurrences (w .0) [] ≡ 0 = unfold occurrences in refl in omega arith
-    some (i ∷ is) h w = omega (arith, h .linked .0)
 
 pred-suc : (n : ℕ) → pred (suc n) ≡ n
 pred-suc n = omega arith
@@ -67,7 +59,8 @@ module _ (t : List ℕ) (ps : List Packet) (f : Facts t ps) where
   row-wrote (down x n) e h a = unfold written packetOf in wrote-nothing t 5 x n 0 tt
 
   -- cons gives its new cell the root count 1
-  pub cons-root : (x y i : ℕ) → cellFree t ≡ true → i < capacity t → wordAt (written t (cons x y)) i rootCount ≡ wordAt t i rootCount + matching (packetOf t (cons x y) .c) (suc i) 1
+  pub cons-root : (x y i : ℕ) → cellFree t ≡ true → i < capacity t
+      → wordAt (written t (cons x y)) i rootCount ≡ wordAt t i rootCount + matching (packetOf t (cons x y) .c) (suc i) 1
   cons-root x y i a l =
       cons-case t (f .free) (f .chain) (some-free a) x y (λ u p. wordAt u i rootCount ≡ wordAt t i rootCount + matching (p .c) (suc i) 1)
       (λ new rest c. cons-roots t ps f new rest c x y i l)
@@ -79,7 +72,8 @@ module _ (t : List ℕ) (ps : List Packet) (f : Facts t ps) where
 
   -- a root count stands, or is that of cons's new cell, which was free
   pub row-root : (r : RowCall) → AllYes (askFree t r) → (i : ℕ) → i < capacity t
-      → (wordAt (written t r) i rootCount ≡ wordAt t i rootCount) ⊎ ((wordAt (written t r) i rootCount ≡ 1) × (inUse t i ≡ false) × (moves root plus (packetOf t r) (suc i) ≡ 0))
+      → (wordAt (written t r) i rootCount ≡ wordAt t i rootCount)
+      ⊎ ((wordAt (written t r) i rootCount ≡ 1) × (inUse t i ≡ false) × (moves root plus (packetOf t r) (suc i) ≡ 0))
   unfolding askFree
   row-root (car x) a i l = unfold written in inl refl
   row-root (cdr x) a i l = unfold written in inl refl

@@ -33,14 +33,16 @@ pub used-put : (t : List ℕ) (i k w j : ℕ) → k ≤ right → inUse (putWord
 unfolding inUse
 used-put t i k w j f = ap (ltb 0) (word-other t i k w j state (omega arith) (omega arith) (λ _ e. omega arith))
 
-pub shown-put : (t : List ℕ) (i k w : ℕ) → tableLength (capacity t) ≤ length t → WrittenIn t i k → Same (capacity t) (shown (putWord t i k w)) (putView (shown t) i k w)
+pub shown-put : (t : List ℕ) (i k w : ℕ) → tableLength (capacity t) ≤ length t → WrittenIn t i k
+    → Same (capacity t) (shown (putWord t i k w)) (putView (shown t) i k w)
 unfolding shown putView
 shown-put t i k w f h j m l n =
     let g = h .field in
     ap₂ (λ (b : Bool) (x : ℕ). cond b x 0) (used-put t i k w j (h .field)) (word-put t i k w j m (room t (capacity t) i f (h .below)) (omega arith) (omega arith))
     ∙ ⊎-elim here (λ (e : eqb k m && eqb i j ≡ false). rw e) (tested (eqb k m && eqb i j))
   where
-    here : eqb k m && eqb i j ≡ true → cond (inUse t j) (cond (eqb k m && eqb i j) w (wordAt t j m)) 0 ≡ cond (eqb k m && eqb i j) w (cond (inUse t j) (wordAt t j m) 0)
+    here : eqb k m && eqb i j ≡ true
+        → cond (inUse t j) (cond (eqb k m && eqb i j) w (wordAt t j m)) 0 ≡ cond (eqb k m && eqb i j) w (cond (inUse t j) (wordAt t j m) 0)
     here e =
         let same : i ≡ j = eqb-true i j (and-second (eqb k m) (eqb i j) e) in
         let used : inUse t j ≡ true = rw same at (h .used) in
@@ -53,18 +55,21 @@ record Undone (t u : List ℕ) (v : View) : Type 0 where
   sameUse : (i : ℕ) → inUse u i ≡ inUse t i
   sees : Same (capacity t) (shown u) v
 
-undone-put : (t u : List ℕ) (v : View) (i k w : ℕ) → tableLength (capacity t) ≤ length t → WrittenIn t i k → Undone t u v → Undone t (putWord u i k w) (putView v i k w)
+undone-put : (t u : List ℕ) (v : View) (i k w : ℕ) → tableLength (capacity t) ≤ length t → WrittenIn t i k → Undone t u v
+    → Undone t (putWord u i k w) (putView v i k w)
 undone-put t u v i k w f h d = record {
   sameLength = length-putWord u i k w ∙ d .sameLength;
   sameCapacity = capacity-putWord u i k w ∙ d .sameCapacity;
   sameUse = λ j. used-put u i k w j (h .field) ∙ d .sameUse j;
-  sees = λ j m l n. shown-put u i k w (rw (d .sameCapacity, d .sameLength) f) there j m (rw (d .sameCapacity) l) n ∙ put-views (capacity t) (shown u) v i k w (d .sees) j m l n;
+  sees = λ j m l n. shown-put u i k w (rw (d .sameCapacity, d .sameLength) f) there j m (rw (d .sameCapacity) l) n
+      ∙ put-views (capacity t) (shown u) v i k w (d .sees) j m l n;
 }
   where
     there : WrittenIn u i k
     there = record { below = rw (d .sameCapacity) (h .below); field = h .field; used = d .sameUse i ∙ h .used }
 
-undone-step : (t u : List ℕ) (v : View) (p : Packet) → tableLength (capacity t) ≤ length t → Written (WrittenIn t) p → Undone t u v → Undone t (undone u p) (undoView p v)
+undone-step : (t u : List ℕ) (v : View) (p : Packet) → tableLength (capacity t) ≤ length t → Written (WrittenIn t) p → Undone t u v
+    → Undone t (undone u p) (undoView p v)
 unfolding undone undoneOf
 undone-step t u v p f w d = go (kindOf (p .kind)) (p .a) (p .b) (p .c) w
   where

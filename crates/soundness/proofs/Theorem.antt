@@ -25,7 +25,7 @@ use Rattle.machine.proofs.Kept.{machine-refused, machine-accepted, gives-machin
 use Rattle.soundness.specs.Demand3.{Link, Joined, Begun, tableAfter, queueAfter, Holds, holds, moved, answers, holdsFrom, holdsAfter, Held, NoneLost, NoneLeft, ExactWhenDone, Clauses, Demand3}
 use Rattle.soundness.proofs.PacketKinds.{unnamed-waiting}
 use Rattle.soundness.proofs.Facts.{Facts, sound-facts, sound-live}
-use Rattle.soundness.proofs.NewPacket.{counted-used, pointed-used}
+use Rattle.soundness.proofs.ReachedCells.{counted-used, pointed-used}
 use Rattle.soundness.proofs.CallSound.{decided}
 use Rattle.soundness.proofs.CodeTests.{pointers-counted}
 use Rattle.soundness.proofs.RootsAreHolds.{Agrees, fresh-agrees, row-agrees, step-agrees}
@@ -56,7 +56,8 @@ machine-agrees : (s : Store) (call : Call) (h : ℕ → Holds) → Agrees (s .ta
     → Agrees (machine s call .after .table) (machine s call .after .queue) (λ x. moved x call (machine s call .reply) (h x))
 machine-agrees s call h a = go (firstNo (questions s call)) refl
   where
-    go : (n : ℕ) → firstNo (questions s call) ≡ n → Agrees (machine s call .after .table) (machine s call .after .queue) (λ x. moved x call (machine s call .reply) (h x))
+    go : (n : ℕ) → firstNo (questions s call) ≡ n
+        → Agrees (machine s call .after .table) (machine s call .after .queue) (λ x. moved x call (machine s call .reply) (h x))
     go zero e = rw (machine-accepted s call e) (accepted-agrees s call h a e)
     go (suc n) e = rw (machine-refused s call n e) (refused-agrees (s .table) (s .queue) h call (suc n) a)
 
@@ -81,7 +82,8 @@ begun-agrees s c w r after p v = go (firstNo (questions s (fresh c))) refl
     go zero d = rw (e .1, machine-accepted s (fresh c) d) (unfold accepted in fresh-agrees s c d)
     go (suc n) d = absurd (not-value (suc n) (sym (ap (λ (o : Outcome). o .reply) (machine-refused s (fresh c) n d)) ∙ sym (e .0) ∙ v))
 
-links-agree : (t : List ℕ) (q : Queue) (h : ℕ → Holds) (ls : List Link) → Agrees t q h → Joined t q ls → Agrees (tableAfter t ls) (queueAfter q ls) (λ x. holdsFrom (h x) (answers ls) x)
+links-agree : (t : List ℕ) (q : Queue) (h : ℕ → Holds) (ls : List Link) → Agrees t q h → Joined t q ls
+    → Agrees (tableAfter t ls) (queueAfter q ls) (λ x. holdsFrom (h x) (answers ls) x)
 unfolding holdsFrom
 links-agree t q h [] a j = a
 links-agree t q h (l ∷ ls) a j =

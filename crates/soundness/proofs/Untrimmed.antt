@@ -38,7 +38,8 @@ Runs P k x (h ∷ hs) n =
 matching-cases : (w x n : ℕ) → ((w ≡ x) × (matching w x n ≡ n)) ⊎ (matching w x n ≡ 0)
 matching-cases w x n = ⊎-elim (λ e. let d = eqb-true w x e in inl (d, matching-same w x n d)) (λ e. inr (matching-other w x n (eqb-false w x e))) (tested (eqb w x))
 
-runs-root : (k : Kind) (a b c x n : ℕ) → usesOf k a b c x ≤ n → n ≤ ceiling → n + movedBy root plus x (changesOf k a b) - movedBy root minus x (changesOf k a b) ≤ ceiling
+runs-root : (k : Kind) (a b c x n : ℕ) → usesOf k a b c x ≤ n → n ≤ ceiling
+    → n + movedBy root plus x (changesOf k a b) - movedBy root minus x (changesOf k a b) ≤ ceiling
     → Runs (λ m. m ≤ ceiling) root x (changesOf k a b) n
 unfolding changesOf movedBy usesOf
 runs-root reads a b c x n u l h = (λ _. u, omega arith, (λ _. tt, omega arith, tt))
@@ -57,12 +58,20 @@ runs-cell : (k : Kind) (a b x n : ℕ) → n ≤ ceiling → movedBy cell minus 
     → Runs (Stands k a b x) cell x (changesOf k a b) n
 unfolding changesOf movedBy
 runs-cell reads a b x n l m h = (λ (e : false ≡ true). absurd (false≢true e), inl l, (λ _. tt, inl l, tt))
-runs-cell makes a b x n l m h =
-    (λ (e : false ≡ true). absurd (false≢true e), inl l, (λ (e : false ≡ true). absurd (false≢true e), inl l, (λ _. tt, inl (omega arith), (λ _. tt, inl (omega arith), tt))))
+runs-cell makes a b x n l m h = (
+  λ (e : false ≡ true). absurd (false≢true e),
+  inl l,
+  (
+    λ (e : false ≡ true). absurd (false≢true e),
+    inl l,
+    (λ _. tt, inl (omega arith), (λ _. tt, inl (omega arith), tt)),
+  ),
+)
 runs-cell (replaces f) a b x n l m h =
     (λ (e : false ≡ true). absurd (false≢true e), inl l, (λ _. tt, raised (matching-cases a x 1) (matching-cases b x 1), (λ _. omega arith, inl (omega arith), tt)))
   where
-    raised : ((a ≡ x) × (matching a x 1 ≡ 1)) ⊎ (matching a x 1 ≡ 0) → ((b ≡ x) × (matching b x 1 ≡ 1)) ⊎ (matching b x 1 ≡ 0) → Stands (replaces f) a b x (n + matching a x 1)
+    raised : ((a ≡ x) × (matching a x 1 ≡ 1)) ⊎ (matching a x 1 ≡ 0) → ((b ≡ x) × (matching b x 1 ≡ 1)) ⊎ (matching b x 1 ≡ 0)
+        → Stands (replaces f) a b x (n + matching a x 1)
     raised (inl e) (inl d) = both (tested (leb (n + matching a x 1) ceiling))
       where
         both : (leb (n + matching a x 1) ceiling ≡ true) ⊎ (leb (n + matching a x 1) ceiling ≡ false) → Stands (replaces f) a b x (n + matching a x 1)
@@ -110,7 +119,8 @@ module _ (t : List ℕ) (p : Packet) (ps : List Packet) (f : Facts t (p ∷ ps))
   cell-runs i l =
       let s = seen-undo (capacity t) (earlier (shown t) ps) p i (all-below t (p ∷ ps) f .0) (f .stages .1) in
       let e = f .counts i l in
-      runs-cell (kindOf (p .kind)) (p .a) (p .b) (suc i) (wordAt t i cellCount) (f .cells i l) (omega arith) (omega (arith, stages-within (capacity t) (shown t) ps (f .stages .0) i l))
+      runs-cell (kindOf (p .kind)) (p .a) (p .b) (suc i) (wordAt t i cellCount) (f .cells i l) (omega arith)
+      (omega (arith, stages-within (capacity t) (shown t) ps (f .stages .0) i l))
 
   untrimmed-facts : Untrimmed t p ps
   untrimmed-facts =

@@ -78,7 +78,8 @@ seen-put c v i k w x l m = go k m refl
     sums : total c (entries u x) + entries v x i ≡ total c (entries v x) + entries u x i
     sums =
         total-at c (entries u x) (entries v x) i l
-        (λ j n d. ap₂ (λ (a b : ℕ). matching a x 1 + matching b x 1) (put-other v i k w j left (λ e. absurd (d (sym e)))) (put-other v i k w j right (λ e. absurd (d (sym e)))))
+        (λ j n d. ap₂ (λ (a b : ℕ). matching a x 1 + matching b x 1) (put-other v i k w j left (λ e. absurd (d (sym e))))
+        (put-other v i k w j right (λ e. absurd (d (sym e)))))
 
     go : (n : ℕ) → n ≤ right → k ≡ n → total c (entries u x) + matching (v i k) x 1 ≡ total c (entries v x) + matching w x 1
     go zero h e =

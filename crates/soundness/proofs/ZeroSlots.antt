@@ -66,12 +66,17 @@ slots-taken q a l s = record { shape = record { place = omega arith; count = ome
         earlier : j < slots - q .count → isZeroPacket (slot (taken q) ((place′ + (q .count - 1) + j) % slots)) ≡ true
         earlier n =
             let e : (place′ + (q .count - 1) + j) % slots ≡ (q .place + q .count + j) % slots = turned (q .place) (q .count) j l in
-            rw (e, slot-other q (q .place) zeroPacket place′ (q .count - 1) ((q .place + q .count + j) % slots) (apart (q .place) (q .count) j (s .shape .place) l n))
+            rw (
+              e,
+              slot-other q (q .place) zeroPacket place′ (q .count - 1) ((q .place + q .count + j) % slots)
+                  (apart (q .place) (q .count) j (s .shape .place) l n),
+            )
             (others-at q (s .others) j n)
 
         here : j ≡ slots - q .count → isZeroPacket (slot (taken q) ((place′ + (q .count - 1) + j) % slots)) ≡ true
         here n =
-            let e : (place′ + (q .count - 1) + j) % slots ≡ q .place = turned (q .place) (q .count) j l ∙ whole (q .place) (q .count) j (s .shape .place) (s .shape .count) n in
+            let e : (place′ + (q .count - 1) + j) % slots ≡ q .place = turned (q .place) (q .count) j l
+            ∙ whole (q .place) (q .count) j (s .shape .place) (s .shape .count) n in
             rw (e, slot-same q (q .place) zeroPacket place′ (q .count - 1) a (s .shape .place)) zero-packet
 
 pub slots-empty : Slots emptyQueue

@@ -58,7 +58,8 @@ machineOf m s call = answeredOf m (firstNo (m .asks s call)) s call
 -- a list of calls breaks a clause under a variant
 abbrev pub Breaks : Parts → List Call → (List ℕ → Queue → (ℕ → Holds) → Type 0) → Type 0
 Breaks m calls clause =
-    clause (tableAfter (unmade .table) (linksOf (machineOf m) unmade calls)) (queueAfter (unmade .queue) (linksOf (machineOf m) unmade calls)) (holdsAfter (linksOf (machineOf m) unmade calls))
+    clause (tableAfter (unmade .table) (linksOf (machineOf m) unmade calls)) (queueAfter (unmade .queue) (linksOf (machineOf m) unmade calls))
+    (holdsAfter (linksOf (machineOf m) unmade calls))
     → ⊥
 
 -- "Holding a counter at 4,095 and counting down from there": no question 9, and a raising stops at the ceiling.
@@ -122,7 +123,8 @@ unfoldable pub asksOneHold : Store → Call → List Question
 asksOneHold s (fresh c) = questions s (fresh c)
 asksOneHold s (row r) =
     cond (eqb (packetOf (s .table) r .kind) 2)
-    (reanswer 6 (every (capacity (s .table)) (λ i. eqb (uses (packetOf (s .table) r) (suc i)) 0 || heldAtLeast (s .table) (waiting (s .queue)) i 1)) (questions s (row r)))
+    (reanswer 6 (every (capacity (s .table)) (λ i. eqb (uses (packetOf (s .table) r) (suc i)) 0 || heldAtLeast (s .table) (waiting (s .queue)) i 1))
+    (questions s (row r)))
     (questions s (row r))
 asksOneHold s step = questions s step
 asksOneHold s audit = questions s audit

@@ -29,12 +29,14 @@ ByItself unknown a b x = ⊥
 pub record Passes (p : Packet) (h : Change) (t u : List ℕ) : Type 0 where
   pub lowers : (i : ℕ) → i < capacity t → Lowers (h .direction) (wordAt t i (counterWord (h .counter))) (matching (h .word) (suc i) (h .amount))
   pub roots : (i : ℕ) → i < capacity t → wordAt u i rootCount ≤ ceiling
-  pub cells : (i : ℕ) → i < capacity t → (wordAt u i cellCount ≤ ceiling) ⊎ ((wordAt u i cellCount ≡ suc ceiling) × ByItself (kindOf (p .kind)) (p .a) (p .b) (suc i))
+  pub cells : (i : ℕ) → i < capacity t
+      → (wordAt u i cellCount ≤ ceiling) ⊎ ((wordAt u i cellCount ≡ suc ceiling) × ByItself (kindOf (p .kind)) (p .a) (p .b) (suc i))
 
 -- all changes of the packet p, one by one
 abbrev pub AllPass : Packet → List ℕ → List Change → Type 0
 AllPass p t [] = Unit {0}
-AllPass p t (h ∷ hs) = Passes p h t (moveCount t (h .counter) (h .word) (h .direction) (h .amount)) × AllPass p (moveCount t (h .counter) (h .word) (h .direction) (h .amount)) hs
+AllPass p t (h ∷ hs) =
+    Passes p h t (moveCount t (h .counter) (h .word) (h .direction) (h .amount)) × AllPass p (moveCount t (h .counter) (h .word) (h .direction) (h .amount)) hs
 
 -- a step that takes the packet p from a table t, with ps waiting behind it
 pub record Untrimmed (t : List ℕ) (p : Packet) (ps : List Packet) : Type 0 where
@@ -43,4 +45,5 @@ pub record Untrimmed (t : List ℕ) (p : Packet) (ps : List Packet) : Type 0 whe
   pub roots : (i : ℕ) → i < capacity t → wordAt (applyChanges t (changes p)) i rootCount ≤ ceiling
   pub cells : (i : ℕ) → i < capacity t → wordAt (applyChanges t (changes p)) i cellCount ≤ ceiling
   -- and no cell has a count below the pointers to it that the freed cells hold
-  pub freeing : (i : ℕ) → i < capacity t → pointersOut (applyChanges t (changes p)) (unreached (applyChanges t (changes p)) ps) (suc i) ≤ wordAt (applyChanges t (changes p)) i cellCount
+  pub freeing : (i : ℕ) → i < capacity t
+      → pointersOut (applyChanges t (changes p)) (unreached (applyChanges t (changes p)) ps) (suc i) ≤ wordAt (applyChanges t (changes p)) i cellCount
