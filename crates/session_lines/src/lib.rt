@@ -72,7 +72,8 @@ pub fn feed(
     input: &[u8],
     out: &mut [u8],
 ) -> Fed
-    ensures { λ r. ⌜ Feeds session (now (table .entry)) (now (scratch .entry)) (now (input .entry)) (r .session) (r .taken) (r .written) (now (table .exit)) (now (scratch .exit)) (now (out .exit)) ⌝ }
+    ensures { λ r. ⌜ Feeds session (now (table .entry)) (now (scratch .entry)) (now (input .entry))
+        (r .session) (r .taken) (r .written) (now (table .exit)) (now (scratch .exit)) (now (out .exit)) ⌝ }
 {
     let mut present = session;
     let mut taken = 0;

@@ -22,7 +22,8 @@ pub fn serve_line(
     at: usize,
 ) -> Lined
     requires { ⌜ at + room ≤ length (now out) ⌝ }
-    ensures { λ r. ⌜ Lines (now (line .entry)) lines (store (now (table .entry)) queue (now (scratch .entry))) (now (out .entry)) at (r .lines) (store (now (table .exit)) (r .queue) (now (scratch .exit))) (r .end) (now (out .exit)) ⌝ }
+    ensures { λ r. ⌜ Lines (now (line .entry)) lines (store (now (table .entry)) queue (now (scratch .entry))) (now (out .entry)) at
+        (r .lines) (store (now (table .exit)) (r .queue) (now (scratch .exit))) (r .end) (now (out .exit)) ⌝ }
 {
     let answered = serve(parse(line), table, queue, scratch);
     let verdict = answered.verdict;

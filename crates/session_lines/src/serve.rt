@@ -49,7 +49,8 @@ fn after_step(reply: Stepped) -> Answered
 }
 
 pub fn serve(request: Request, table: &mut [u16], queue: Queue, scratch: &mut [u16]) -> Answered
-    ensures { λ r. ⌜ (Good (now (table .entry)) queue → Serves (store (now (table .entry)) queue (now (scratch .entry))) request (r .verdict) (store (now (table .exit)) (r .queue) (now (scratch .exit)))) ⌝ }
+    ensures { λ r. ⌜ (Good (now (table .entry)) queue
+        → Serves (store (now (table .entry)) queue (now (scratch .entry))) request (r .verdict) (store (now (table .exit)) (r .queue) (now (scratch .exit)))) ⌝ }
 {
     match request {
         Request::Fresh(c) => after_fresh(store::fresh(table, queue, c)),

@@ -19,7 +19,8 @@ pub fn turn(
     at: usize,
 ) -> Turned
     requires { ⌜ at + room ≤ length (now out) ⌝ }
-    ensures { λ r. ⌜ Turns session (now (table .entry)) (now (scratch .entry)) (now (input .entry)) (now (out .entry)) at (r .session) (r .taken) (r .end) (now (table .exit)) (now (scratch .exit)) (now (out .exit)) ⌝ }
+    ensures { λ r. ⌜ Turns session (now (table .entry)) (now (scratch .entry)) (now (input .entry)) (now (out .entry)) at
+        (r .session) (r .taken) (r .end) (now (table .exit)) (now (scratch .exit)) (now (out .exit)) ⌝ }
 {
     let feed = find(input, b'\n');
     let mut line = session.line;
