@@ -11,7 +11,9 @@ use Rattle.machine.specs.Step.{Outcome, outcome}
 use Rattle.machine.specs.Questions.{firstNo, inRange, early, late, questions}
 use Rattle.machine.specs.Machine.{accepted, answered, machine}
 use Rattle.machine.specs.Promise.{Promise}
-use Rattle.soundness.proofs.Keeps.{Whole, machine-refused, machine-accepted, fresh-whole, decided, promise-whole}
+use Rattle.machine.proofs.Kept.{machine-refused, machine-accepted, gives-machine}
+use Rattle.soundness.specs.Whole.{Whole}
+use Rattle.soundness.proofs.CallSound.{fresh-whole, decided, promise-whole}
 use Rattle.line_text.specs.declared.Request
 use Rattle.line_text.specs.declared.Request.{Request}
 use Rattle.line_text.specs.declared.Verdict
@@ -77,7 +79,7 @@ exact s call r s′ p g =
     ⊎-elim
     (λ (h : capacity (s .table) ≡ 0). unmade-exact s call r s′ h p)
     (λ (w : Whole (s .table) (s .queue)).
-    let e = p .exact (decided s call (w .sound)) in
+    let e = gives-machine s call r s′ (p .exact (decided s call (w .sound))) in
     record { reply = e .0; after = e .1; good = inr (promise-whole s call r s′ p w) })
     g
 

@@ -6,7 +6,7 @@ use Prim.Native.Nat.{ℕ}
 use Rattle.machine.specs.declared.Queue.{Queue}
 use Rattle.machine.specs.Table.{capacity}
 use Rattle.machine.specs.Calls.{Store, store}
-use Rattle.soundness.proofs.Keeps.{Whole}
+use Rattle.soundness.specs.Whole.{Whole}
 use Rattle.line_text.specs.declared.Request.{Request}
 use Rattle.line_text.specs.declared.Verdict.{Verdict}
 use Rattle.session_lines.specs.Listing.{served}

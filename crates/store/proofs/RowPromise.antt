@@ -8,7 +8,7 @@ use native.Mathlib.Omega.{arith}
 use Rattle.machine.specs.declared.Queue.{Queue}
 use Rattle.machine.specs.declared.RowAnswer.{RowAnswer}
 use Rattle.machine.specs.declared.FreshAnswer.{FreshAnswer}
-use Rattle.machine.specs.Queue.{appended}
+use Rattle.machine.specs.Queue.{Arrays, appended}
 use Rattle.machine.specs.Packets.{kindOf, contains}
 use Rattle.machine.specs.Calls.{RowCall, car, cdr, cons, setLeft, setRight, up, down, Call, row, fresh, Reply, value, refused, Store, store, packetOf, written, valueOf}
 use Rattle.machine.specs.Step.{Outcome, outcome}
@@ -17,7 +17,6 @@ use Rattle.machine.specs.Audit.{Sound}
 use Rattle.machine.specs.Machine.{accepted, answered, machine}
 use Rattle.machine.specs.Answers.{rowReply, freshReply}
 use Rattle.machine.specs.Promise.{Untouched, Bounded, numbers, Promise}
-use Rattle.machine.proofs.Ring.{Arrays}
 use Rattle.machine.proofs.Questions.{Numbered, AllYes, firstNo-append, firstNo-none, firstNo-number, firstNo-all, early-numbered}
 use Rattle.machine.proofs.Kept.{machine-accepted, machine-refused, kept, bounded-accepted, bounded-same}
 use Rattle.calls.specs.Tests.{freeByEnd, codeLate, codeQuestions}

@@ -11,7 +11,7 @@ use Rattle.machine.specs.declared.Queue.{Queue}
 use Rattle.machine.specs.Range.{matching, everyOf}
 use Rattle.machine.specs.Words.{isCell, ceiling}
 use Rattle.machine.specs.Table.{capacity, firstFree, wordAt, rootCount, cellCount}
-use Rattle.machine.specs.Queue.{Packet, slots, appended, waiting}
+use Rattle.machine.specs.Queue.{Arrays, Packet, slots, appended, waiting}
 use Rattle.machine.specs.Packets.{Counter, root, cell, Direction, plus, minus, Change, kindOf, changes, sameCounter, sameDirection, movedBy, waitingChange, contains}
 use Rattle.machine.specs.Calls.{RowCall, car, cdr, cons, setLeft, setRight, up, down, row, store, packetOf, written}
 use Rattle.machine.specs.Step.{counterWord}
@@ -20,11 +20,10 @@ use Rattle.machine.specs.Audit.{Sound}
 use Rattle.machine.proofs.Range.{tested, not-both, lt-or-ge, or-left, or-right, matching-other}
 use Rattle.machine.proofs.Lists.{everyOf-at, everyOf-all}
 use Rattle.machine.proofs.Words.{cell-place, cell-number, place-cell}
-use Rattle.machine.proofs.Ring.{Arrays}
 use Rattle.machine.proofs.Questions.{Numbered, AllYes, firstNo-append, firstNo-none, firstNo-all, early-numbered}
 use Rattle.soundness.proofs.CodeTests.{pointers-counted, first-free, held-most, pointers-most}
-use Rattle.soundness.proofs.RowAsked.{held-test}
-use Rattle.soundness.proofs.Raised.{Fits, question9, question10}
+use Rattle.soundness.proofs.RowQuestions.{held-test}
+use Rattle.soundness.proofs.RaisedCells.{Fits, question9, question10}
 use Rattle.calls.specs.Tests.{raisedWords, countWithin, raisedWithin, freeByEnd, codeLate, codeQuestions}
 use Rattle.calls.proofs.LateLaws.{bool-same}
 

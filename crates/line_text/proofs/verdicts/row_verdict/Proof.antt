@@ -8,15 +8,15 @@ enum-known-answer c = search needs
 enum-known-answer-2 : tie.Need-enum-known-answer-2
 enum-known-answer-2 c = search needs
 
-number-of-requires : tie.Need-number-of-requires
-number-of-requires c κs = search needs
+number-requires : tie.Need-number-requires
+number-requires c κs = search needs
 
 returns : tie.Need-returns
 returns c = rw (c .before .answer .given .1)
 
 returns-2 : tie.Need-returns-2
-returns-2 c = rw (c .before .before .answer2 .given .1, c .number-of .ensures)
+returns-2 c = rw (c .before .before .answer2 .given .1, c .number .ensures)
 
 pub row-verdict-spec : {M : Type 1} → statement M
 row-verdict-spec =
-    tie.close (tie.spec enum-known-answer enum-known-answer-2 number-of-requires returns returns-2)
+    tie.close (tie.spec enum-known-answer enum-known-answer-2 number-requires returns returns-2)

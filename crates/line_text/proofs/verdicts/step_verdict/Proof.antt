@@ -11,8 +11,8 @@ enum-known-answer c = search needs
 enum-known-answer-2 : tie.Need-enum-known-answer-2
 enum-known-answer-2 c = search needs
 
-number-of-requires : tie.Need-number-of-requires
-number-of-requires c κs = search needs
+number-requires : tie.Need-number-requires
+number-requires c κs = search needs
 
 returns : tie.Need-returns
 returns c = search needs
@@ -21,7 +21,7 @@ returns-2 : tie.Need-returns-2
 returns-2 c = rw (c .before .answer .given .1)
 
 returns-3 : tie.Need-returns-3
-returns-3 c = rw (c .before .before .answer2 .given .1, c .number-of .ensures)
+returns-3 c = rw (c .before .before .answer2 .given .1, c .number .ensures)
 
 pub step-verdict-spec : {M : Type 1} → statement M
 step-verdict-spec =
@@ -30,7 +30,7 @@ step-verdict-spec =
     enum-told
     enum-known-answer
     enum-known-answer-2
-    number-of-requires
+    number-requires
     returns
     returns-2
     returns-3)
