@@ -96,7 +96,7 @@ fn run(table: &mut [u16], scratch: &mut [u16], input: &mut [u8], out: &mut [u8])
 
 fn main() {
     let mut table = [0u16; cells::MOST_WORDS];
-    let mut scratch = [0u16; machine::MOST_CELLS as usize];
+    let mut scratch = [0u16; cells::MOST_SCRATCH];
     let mut input = io::large_buffer();
     let mut out = io::large_buffer();
     run(&mut table, &mut scratch, &mut input, &mut out);

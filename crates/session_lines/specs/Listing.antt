@@ -3,7 +3,7 @@ use mathlib.Core.List.{List, [], _∷_, _++_}
 use Prim.Native.Nat.{ℕ, suc}
 use lib.ListN.{replicate}
 use Rattle.machine.specs.Words.{mostCells}
-use Rattle.machine.specs.Table.{tableLength}
+use Rattle.machine.specs.Table.{tableLength, scratchWords}
 use Rattle.machine.specs.Queue.{emptyQueue}
 use Rattle.machine.specs.Calls.{Call, fresh, row, step, RowCall, car, cdr, cons, setLeft, setRight, up, down}
 use Rattle.machine.specs.Calls.{Store, store}
@@ -46,7 +46,7 @@ listed n s (line ∷ rest) =
 
 -- before a fresh the table is zero
 abbrev pub unmade : ℕ → Store
-unmade c = store (replicate (tableLength c) 0) emptyQueue (replicate c 0)
+unmade c = store (replicate (tableLength c) 0) emptyQueue (replicate (scratchWords c) 0)
 
 -- with a table for c cells
 unfoldable pub listingWith : ℕ → List ℕ → List ℕ

@@ -4,7 +4,7 @@ use mathlib.Core.List.{List, [], _∷_, _++_}
 use Prim.Native.Nat.{ℕ, _+_, _^_, _<_}
 use lib.ListN.{length, take, replicate}
 use Rattle.machine.specs.Words.{mostCells}
-use Rattle.machine.specs.Table.{tableLength}
+use Rattle.machine.specs.Table.{tableLength, scratchWords}
 use Rattle.session_lines.specs.declared.Session.{Session}
 use Rattle.session_lines.specs.Listing.{listing}
 use Rattle.session_lines.specs.Progress.{started, Feeds, Finishes}
@@ -45,7 +45,7 @@ outputs (p ∷ ps) = take (p .written) (p .buffer) ++ outputs ps
 
 -- a table for 4,096 cells, zero before a fresh
 abbrev pub begin : State
-begin = record { session = started; table = replicate (tableLength mostCells) 0; scratch = replicate mostCells 0 }
+begin = record { session = started; table = replicate (tableLength mostCells) 0; scratch = replicate (scratchWords mostCells) 0 }
 
 -- any input shorter than 2^64 bytes, in parts of any size
 abbrev pub Whole : Type 0

@@ -1,5 +1,6 @@
 use mathlib.Core.Path.{refl}
 use borrow.Author.Needs.{needs}
+use Rattle.machine.specs.Table.{scratchWords}
 use Rattle.session.proofs.main.Statement.{statement}
 use Rattle.session.proofs.main.Tie as tie
 
@@ -23,6 +24,7 @@ slice-aggregate-run-4 c = search needs
 
 -- table and scratch are those of an empty session, by their lengths
 run-requires : tie.Need-run-requires
+unfolding scratchWords
 run-requires c κs = (refl, refl, search needs)
 
 returns : tie.Need-returns
