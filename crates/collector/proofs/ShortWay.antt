@@ -1,14 +1,13 @@
 -- The short way: where each cell that the taken packet names is still a root and every cell in use was reached before, nothing is to be freed.
 use mathlib.Core.Path.{_≡_, refl, _∙_}
 use mathlib.Core.Logic.{⊎-elim, _≢_}
-use mathlib.Core.Bool.{Bool, true, false, not, _&&_, _||_, false≢true, and-false}
+use mathlib.Core.Bool.{Bool, true, false, not, _&&_, _||_, and-false}
 use mathlib.Core.List.{List, [], _∷_}
-use Prim.Native.Nat.{ℕ, zero, suc, _≤_, _<_}
+use Prim.Native.Nat.{ℕ, suc, _≤_, _<_}
 use native.Mathlib.Omega.{arith}
 use lib.Dec.{eqb}
 use lib.ListN.{length}
-use borrow.Author.Tests.{eqb-true, eqb-false}
-use Rattle.machine.specs.Range.{select, everyOf}
+use borrow.Author.Tests.{eqb-false}
 use Rattle.machine.specs.Words.{isCell}
 use Rattle.machine.specs.Table.{stride, left, right, rootCount, cellCount, state, capacity, tableLength, wordAt, inUse, isFree}
 use Rattle.machine.specs.Queue.{Packet}
@@ -16,15 +15,16 @@ use Rattle.machine.specs.Packets.{Counter, root, cell, Change, Kind, reads, mak
 use Rattle.machine.specs.Reached.{isRoot, pointsTo, begun, onward, Reached, reached}
 use Rattle.machine.specs.Step.{counterWord, moveCount, applyChanges, unreached}
 use Rattle.machine.specs.Audit.{allReached}
-use Rattle.machine.proofs.Range.{tested, or-true, or-false, and-first, and-second, every-at, matching-other}
+use Rattle.machine.proofs.Range.{tested, or-true, or-false, every-at, matching-other}
 use Rattle.machine.proofs.Words.{place-cell}
+use Rattle.machine.proofs.Lists.{everyOf-at, select-none}
 use Rattle.machine.proofs.Table.{free-not-in-use}
 use Rattle.machine.proofs.Moves.{length-move, capacity-move, word-move, count-move, shifted-none}
 use Rattle.machine.proofs.Reached.{reached-is}
-use Rattle.collector.specs.Names.{threeNames, staysRoot, stayRoots}
-use Rattle.collector.proofs.Names.{contains-three}
+use Rattle.marks.specs.Names.{threeNames, staysRoot, stayRoots}
+use Rattle.marks.proofs.Names.{contains-three}
 
--- no change is of the cell at place j
+-- no change is of the cell at index j
 abbrev Elsewhere : ℕ → List Change → Type 0
 Elsewhere j [] = Unit {0}
 Elsewhere j (h ∷ hs) = (h .word ≢ suc j) × Elsewhere j hs
@@ -88,17 +88,6 @@ unfolding applyChanges
 capacity-kept t [] = refl
 capacity-kept t (h ∷ hs) = capacity-kept (moveCount t (h .counter) (h .word) (h .direction) (h .amount)) hs ∙ capacity-move t (h .counter) (h .word) (h .direction) (h .amount)
 
-everyOf-contains : (ws : List ℕ) (f : ℕ → Bool) (w : ℕ) → everyOf ws f ≡ true → contains ws w ≡ true → f w ≡ true
-unfolding everyOf contains
-everyOf-contains [] f w h m = absurd (false≢true m)
-everyOf-contains (x ∷ ws) f w h m =
-    ⊎-elim (λ e. let same : x ≡ w = eqb-true x w e in rw same at (and-first (f x) (everyOf ws f) h)) (λ e. everyOf-contains ws f w (and-second (f x) (everyOf ws f) h) e) (or-true (eqb x w) (contains ws w) m)
-
-select-none : (n : ℕ) (p : ℕ → Bool) → ((i : ℕ) → i < n → p i ≡ false) → select n p ≡ []
-unfolding select
-select-none zero p e = refl
-select-none (suc n) p e = rw (select-none n p (λ i l. e i (omega arith)), e n (omega arith))
-
 module _ (t : List ℕ) (p : Packet) (ps : List Packet) (f : tableLength (capacity t) ≤ length t) where
   abbrev t′ : List ℕ
   t′ = applyChanges t (changes p)
@@ -107,7 +96,7 @@ module _ (t : List ℕ) (p : Packet) (ps : List Packet) (f : tableLength (capaci
     named-root : (i : ℕ) → i < capacity t → contains (names p) (suc i) ≡ true → isRoot t′ ps i ≡ true
     unfolding stayRoots staysRoot
     named-root i l m =
-        let s = everyOf-contains (threeNames p) (staysRoot t′ ps) (suc i) still (contains-three p (suc i) (omega arith) ∙ m) in
+        let s = everyOf-at (threeNames p) (staysRoot t′ ps) (suc i) still (contains-three p (suc i) (omega arith) ∙ m) in
         let c : isCell (capacity t′) (suc i) ≡ true = place-cell (capacity t′) i (rw (capacity-kept t (changes p)) l) in
         rw c at s
 

@@ -2,14 +2,13 @@
 use mathlib.Core.Path.{_≡_}
 use mathlib.Core.Bool.{true, cond}
 use mathlib.Core.List.{List}
-use Prim.Native.Nat.{ℕ, suc, _≤_, _<_}
+use Prim.Native.Nat.{ℕ, suc, _<_}
 use lib.ListN.{length}
 use Rattle.machine.specs.declared.Queue.{Queue}
 use Rattle.machine.specs.declared.StepAnswer
 use Rattle.machine.specs.declared.StepAnswer.{StepAnswer}
-use Rattle.machine.specs.Words.{mostCells}
-use Rattle.machine.specs.Table.{capacity, lastFree, tableLength}
-use Rattle.machine.specs.Queue.{Packet, slots, slot, waiting, taken}
+use Rattle.machine.specs.Table.{capacity, scratchWords}
+use Rattle.machine.specs.Queue.{Packet, slot, waiting, taken}
 use Rattle.machine.specs.Packets.{changes}
 use Rattle.machine.specs.Calls.{step, refused, idle, applied, store}
 use Rattle.machine.specs.Step.{unreached, swept, cleared, outcome, stepped}
@@ -18,9 +17,8 @@ use Rattle.machine.specs.Audit.{allReached}
 use Rattle.machine.specs.Answers.{stepReply}
 use Rattle.machine.specs.Promise.{Untouched}
 use Rattle.collector.specs.declared.Stepped.{Stepped}
-use Rattle.collector.specs.Fitting.{applyFitting, ChangesFit}
-use Rattle.collector.specs.Names.{stayRoots}
-use Rattle.collector.specs.Marking.{Markable}
+use Rattle.collector.specs.Changes.{applyFitting, ChangesFit}
+use Rattle.marks.specs.Names.{stayRoots}
 
 -- the oldest packet
 abbrev pub oldest : Queue → Packet
@@ -42,28 +40,14 @@ freedNumber t ps p = cond (stayRoots t ps p) 0 (length (unreached t ps))
 pub record Collects (t : List ℕ) (ps : List Packet) (s t′ s′ : List ℕ) (n : ℕ) : Type 0 where
   pub table : t′ ≡ swept t (unreached t ps)
   pub number : n ≡ length (unreached t ps)
-  pub scratch : s′ ≡ cleared (capacity t) s
+  pub scratch : s′ ≡ cleared (scratchWords (capacity t)) s
 
-pub record Collectable (t : List ℕ) (q : Queue) (s : List ℕ) (c : ℕ) : Type 0 where
-  pub markable : Markable t q s c
-  pub last : lastFree t ≤ capacity t
-
--- questions 1 and 2 as plain facts, and a packet waits
-pub record Waits (t : List ℕ) (q : Queue) (s : List ℕ) : Type 0 where
-  pub room : tableLength (capacity t) ≤ length t
-  pub most : capacity t ≤ mostCells
-  pub last : lastFree t ≤ capacity t
-  pub place : q .place < slots
-  pub count : q .count ≤ slots
-  pub enough : capacity t ≤ length s
-  pub some : 0 < q .count
-
--- what the code then computes on any store
+-- what the code computes where a packet waits, on any store past questions 1 and 2
 pub record Applies (t : List ℕ) (q : Queue) (s : List ℕ) (r : Stepped) (t′ s′ : List ℕ) : Type 0 where
   pub table : t′ ≡ collected (applyFitting t (changes (oldest q))) (waiting (taken q)) (oldest q)
   pub answer : r .answer ≡ StepAnswer.Applied (oldest q .kind) (freedNumber (applyFitting t (changes (oldest q))) (waiting (taken q)) (oldest q))
   pub queue : r .queue ≡ taken q
-  pub scratch : s′ ≡ cleared (capacity t) s
+  pub scratch : s′ ≡ cleared (scratchWords (capacity t)) s
 
 pub record Steps (t : List ℕ) (q : Queue) (s : List ℕ) (r : Stepped) (t′ s′ : List ℕ) : Type 0 where
   -- questions 1 and 2, on any store: the first "no" gives its number, and nothing lent changes
@@ -72,9 +56,9 @@ pub record Steps (t : List ℕ) (q : Queue) (s : List ℕ) (r : Stepped) (t′ s
   pub answered : ((n : ℕ) → firstNo (early (store t q s) step) ≡ 0 → stepReply (r .answer) ≡ refused n → ⊥)
   -- idle where no packet waits, and nothing changes
   pub idles : (firstNo (early (store t q s) step) ≡ 0 → q .count ≡ 0 → (stepReply (r .answer) ≡ idle) × (store t′ (r .queue) s′ ≡ store t q s))
-  -- else the reply has the oldest packet's kind, the packet leaves the queue, and the first C words of the scratch are 0
+  -- else the reply has the oldest packet's kind, the packet leaves the queue, and the words of the scratch that the table needs are 0
   pub replies : (firstNo (early (store t q s) step) ≡ 0 → 0 < q .count → (n : ℕ) × (stepReply (r .answer) ≡ applied (oldest q .kind) n))
-  pub takes : (firstNo (early (store t q s) step) ≡ 0 → 0 < q .count → (r .queue ≡ taken q) × (s′ ≡ cleared (capacity t) s))
+  pub takes : (firstNo (early (store t q s) step) ≡ 0 → 0 < q .count → (r .queue ≡ taken q) × (s′ ≡ cleared (scratchWords (capacity t)) s))
   -- by the machine's definition
   pub exact : (firstNo (early (store t q s) step) ≡ 0 → Premises t q → outcome (stepReply (r .answer)) (store t′ (r .queue) s′) ≡ stepped (store t q s))
   -- on any store

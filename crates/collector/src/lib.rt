@@ -1,14 +1,14 @@
 // The collector's step: the oldest packet is applied, and the cells in use that no root reaches any more are freed.
 mod counts;
-pub mod marks;
-mod roots;
 mod sweep;
 
+use machine::Asked;
 use machine::Queue;
-use machine::Refusal;
 use machine::StepAnswer;
+ghost use Prim.Native.Nat.{_<_};
 ghost use Rattle.machine.specs.Queue.{waiting};
-ghost use Rattle.collector.specs.Steps.{Collectable, Collects, Waits, Applies, Steps};
+ghost use Rattle.machine.specs.Facts.{Lent};
+ghost use Rattle.collector.specs.Steps.{Collects, Applies, Steps};
 
 // A step's answer, and the queue afterwards.
 pub struct Stepped {
@@ -17,11 +17,12 @@ pub struct Stepped {
 }
 
 // Mark and sweep: how many cells were freed.
-fn collect(table: &mut [u16], queue: Queue, scratch: &mut [u16], c: u16) -> u16
-    requires { ⌜ Collectable (now table) queue (now scratch) c ⌝ }
+fn collect(table: &mut [u16], queue: Queue, scratch: &mut [u16]) -> u16
+    requires { ⌜ Lent (now table) queue (now scratch) ⌝ }
     ensures { λ r. ⌜ Collects (now (table .entry)) (waiting queue) (now (scratch .entry)) (now (table .exit)) (now (scratch .exit)) r ⌝ }
 {
-    marks::mark(table, queue, scratch, c);
+    let c = cells::capacity_of(table);
+    marks::mark(table, queue, scratch);
     let freed = sweep::sweep(table, scratch);
     marks::clear(scratch, c);
     freed
@@ -30,7 +31,7 @@ fn collect(table: &mut [u16], queue: Queue, scratch: &mut [u16], c: u16) -> u16
 // A packet waits: the oldest is applied and leaves the queue. Where each cell that it names is still a root, nothing can be freed on a sound
 // store, and mark and sweep are skipped.
 fn apply_oldest(table: &mut [u16], queue: Queue, scratch: &mut [u16]) -> Stepped
-    requires { ⌜ Waits (now table) queue (now scratch) ⌝ }
+    requires { ⌜ Lent (now table) queue (now scratch) × (0 < queue .count) ⌝ }
     ensures { λ r. ⌜ Applies (now (table .entry)) queue (now (scratch .entry)) r (now (table .exit)) (now (scratch .exit)) ⌝ }
 {
     let c = cells::capacity_of(table);
@@ -39,10 +40,10 @@ fn apply_oldest(table: &mut [u16], queue: Queue, scratch: &mut [u16]) -> Stepped
     let rest = queue::take(queue);
     counts::apply(table, p.kind, p.a, p.b);
     let mut freed: u16 = 0;
-    if roots::stay_roots(table, rest, p.kind, p.a, p.b, p.c) {
+    if marks::roots::stay_roots(table, rest, p.kind, p.a, p.b, p.c) {
         marks::clear(scratch, c);
     } else {
-        freed = collect(table, rest, scratch, c);
+        freed = collect(table, rest, scratch);
     }
     Stepped {
         answer: StepAnswer::Applied {
@@ -57,8 +58,9 @@ fn apply_oldest(table: &mut [u16], queue: Queue, scratch: &mut [u16]) -> Stepped
 pub fn step(table: &mut [u16], queue: Queue, scratch: &mut [u16]) -> Stepped
     ensures { λ r. ⌜ Steps (now (table .entry)) queue (now (scratch .entry)) r (now (table .exit)) (now (scratch .exit)) ⌝ }
 {
-    if questions::in_range(table, queue) {
-        if questions::scratch_enough(table, scratch) {
+    let asked = questions::lent(table, queue, scratch);
+    match asked {
+        Asked::Yes => {
             let count = queue.count;
             if count == 0 {
                 return Stepped {
@@ -66,15 +68,11 @@ pub fn step(table: &mut [u16], queue: Queue, scratch: &mut [u16]) -> Stepped
                     queue,
                 };
             }
-            return apply_oldest(table, queue, scratch);
+            apply_oldest(table, queue, scratch)
         }
-        return Stepped {
-            answer: StepAnswer::Refused(Refusal::ScratchTooShort),
+        Asked::No(refusal) => Stepped {
+            answer: StepAnswer::Refused(refusal),
             queue,
-        };
-    }
-    Stepped {
-        answer: StepAnswer::Refused(Refusal::StoreOutOfRange),
-        queue,
+        },
     }
 }

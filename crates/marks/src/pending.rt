@@ -8,7 +8,8 @@ ghost use Prim.Native.Nat.{_+_, _<_, _≤_};
 ghost use lib.ListN.{length};
 ghost use Rattle.machine.specs.Words.{mostCells};
 ghost use Rattle.machine.specs.Table.{tableLength, scratchWords};
-ghost use Rattle.machine.specs.Queue.{slots, packet, waiting};
+ghost use Rattle.machine.specs.Queue.{packet, waiting};
+ghost use Rattle.machine.specs.Facts.{QueueShape};
 ghost use Rattle.marks.specs.Names.{threeNames};
 ghost use Rattle.marks.specs.Stack.{stack, pushed, pushedAll, pushedIfRooted, pushedRooted, pushedNamed, visited, Pushes, Visitable, Followable, Follows};
 
@@ -65,7 +66,7 @@ fn push_names(scratch: &mut [u16], n: u16, top: u16, kind: u16, a: u16, b: u16, 
 
 // The cells that waiting packets name.
 pub(crate) fn push_named(queue: Queue, scratch: &mut [u16], c: u16, first: u16) -> u16
-    requires { ⌜ (queue .place < slots) × (queue .count ≤ slots) × (scratchWords c ≤ length (now scratch)) × (c ≤ mostCells) × (first ≤ c) ⌝ }
+    requires { ⌜ QueueShape queue × (scratchWords c ≤ length (now scratch)) × (c ≤ mostCells) × (first ≤ c) ⌝ }
     ensures { λ r. ⌜ Pushes c (stack (now (scratch .exit)) r) (pushedNamed c (waiting queue) (stack (now (scratch .entry)) first)) ⌝ }
 {
     let place = queue.place;

@@ -5,12 +5,13 @@ use queue::Packet;
 ghost use mathlib.Core.Path.{_≡_};
 ghost use mathlib.Core.Bool.{_||_};
 ghost use mathlib.Core.List.{[], _∷_};
-ghost use Prim.Native.Nat.{suc, _<_, _≤_};
+ghost use Prim.Native.Nat.{suc, _≤_};
 ghost use lib.Dec.{ltb};
 ghost use lib.ListN.{length};
-ghost use Rattle.machine.specs.Table.{rootCount, capacity, tableLength, wordAt};
-ghost use Rattle.machine.specs.Queue.{slots, packet, waiting};
+ghost use Rattle.machine.specs.Table.{rootCount, tableLength, wordAt};
+ghost use Rattle.machine.specs.Queue.{packet, waiting};
 ghost use Rattle.machine.specs.Packets.{kindOf, contains, isNamed};
+ghost use Rattle.machine.specs.Facts.{QueueShape, Shape};
 ghost use Rattle.marks.specs.Names.{threeOf, staysRoot, stayRoots};
 
 // The words that a packet names, nil in the place of those that it does not.
@@ -53,7 +54,7 @@ fn or_named(found: bool, kind: u16, a: u16, b: u16, c: u16, w: u16) -> bool
 
 // Whether a waiting packet names the cell w.
 fn named(queue: Queue, w: u16) -> bool
-    requires { ⌜ (queue .place < slots) × (queue .count ≤ slots) × (1 ≤ w) ⌝ }
+    requires { ⌜ QueueShape queue × (1 ≤ w) ⌝ }
     ensures { λ r. ⌜ r ≡ isNamed (waiting queue) w ⌝ }
 {
     let place = queue.place;
@@ -79,7 +80,7 @@ pub(crate) fn rooted(table: &[u16], index: usize) -> bool
 
 // Whether the word w is no cell, or a root.
 fn stays_root(table: &[u16], queue: Queue, w: u16) -> bool
-    requires { ⌜ (tableLength (capacity (now table)) ≤ length (now table)) × (queue .place < slots) × (queue .count ≤ slots) ⌝ }
+    requires { ⌜ Shape (now table) queue ⌝ }
     ensures { λ r. ⌜ r ≡ staysRoot (now (table .entry)) (waiting queue) w ⌝ }
 {
     if is_cell(cells::capacity_of(table), w) {
@@ -93,7 +94,7 @@ fn stays_root(table: &[u16], queue: Queue, w: u16) -> bool
 
 // Whether each cell that a packet names is a root, with the queue's packets waiting.
 pub fn stay_roots(table: &[u16], queue: Queue, kind: u16, a: u16, b: u16, c: u16) -> bool
-    requires { ⌜ (tableLength (capacity (now table)) ≤ length (now table)) × (queue .place < slots) × (queue .count ≤ slots) ⌝ }
+    requires { ⌜ Shape (now table) queue ⌝ }
     ensures { λ r. ⌜ r ≡ stayRoots (now (table .entry)) (waiting queue) (packet kind a b c) ⌝ }
 {
     let n = names_of(kind, a, b, c);

@@ -1,6 +1,6 @@
-use mathlib.Core.Path.{refl, sym, _∙_}
+use mathlib.Core.Path.{refl}
 use borrow.Author.Needs.{needs}
-use Rattle.collector.proofs.Stepping.{rest-collectable, short, long}
+use Rattle.collector.proofs.StepContract.{rest-lent, short, long}
 use Rattle.collector.proofs.apply_oldest.Statement.{statement}
 use Rattle.collector.proofs.apply_oldest.Tie as tie
 
@@ -26,11 +26,14 @@ stay-roots-requires c κs =
     let at-packet-at = at-take .before in
     let at-capacity-of = at-packet-at .before in
     let s = at-capacity-of .before .before .before .before in
-    let m = rest-collectable (s .args .table .now) (s .args .queue) (s .args .scratch .now) (s .pre) _ _ _ _ (at-packet-at .packet-at .ensures) _ (at-apply .apply .ensures) _ (at-take .take .ensures) _ (at-capacity-of .capacity-of .ensures) .markable in
-    (rw (m .cells) at (m .room), m .place, m .count)
+    rest-lent (s .args .table .now) (s .args .queue) (s .args .scratch .now) (s .pre .0) _ _ _ _ (at-packet-at .packet-at .ensures) _
+    (at-apply .apply .ensures) _ (at-take .take .ensures) .shape
 
 clear-requires : tie.Need-clear-requires
-clear-requires c κs = search needs
+clear-requires c κs =
+    let at-capacity-of = c .before .before .before .before .before .before .before .before .before .before in
+    let s = at-capacity-of .before .before .before .before in
+    rw (at-capacity-of .capacity-of .ensures) (s .pre .0 .scratch)
 
 collect-requires : tie.Need-collect-requires
 collect-requires c κs =
@@ -39,8 +42,8 @@ collect-requires c κs =
     let at-packet-at = at-take .before in
     let at-capacity-of = at-packet-at .before in
     let s = at-capacity-of .before .before .before .before in
-    rest-collectable (s .args .table .now) (s .args .queue) (s .args .scratch .now) (s .pre) _ _ _ _ (at-packet-at .packet-at .ensures) _
-    (at-apply .apply .ensures) _ (at-take .take .ensures) _ (at-capacity-of .capacity-of .ensures)
+    rest-lent (s .args .table .now) (s .args .queue) (s .args .scratch .now) (s .pre .0) _ _ _ _ (at-packet-at .packet-at .ensures) _
+    (at-apply .apply .ensures) _ (at-take .take .ensures)
 
 same-length : tie.Need-same-length
 same-length c = search needs
@@ -57,9 +60,9 @@ returns c =
     let at-packet-at = at-take .before in
     let at-capacity-of = at-packet-at .before in
     let s = at-capacity-of .before .before .before .before in
-    short (s .args .table .now) (s .args .queue) (s .args .scratch .now) (s .pre) _ _ _ _ (at-packet-at .packet-at .ensures) _
-    (at-apply .apply .ensures) _ (at-take .take .ensures) _ (at-capacity-of .capacity-of .ensures)
-    (sym (at-stay-roots .stay-roots .ensures) ∙ at-if1 .if1 .taken) _ (c .before .before .clear .ensures) _ refl refl
+    short (s .args .table .now) (s .args .queue) (s .args .scratch .now) (s .pre .0) _ _ _ _ (at-packet-at .packet-at .ensures) _
+    (at-apply .apply .ensures) _ (at-take .take .ensures)
+    (at-stay-roots .stay-roots .result) (at-stay-roots .stay-roots .ensures) (at-if1 .if1 .taken) _ (at-capacity-of .capacity-of .ensures) _ (c .before .before .clear .ensures) _ refl refl
 
 same-length-3 : tie.Need-same-length-3
 same-length-3 c = search needs
@@ -77,9 +80,9 @@ returns-2 c =
     let at-packet-at = at-take .before in
     let at-capacity-of = at-packet-at .before in
     let s = at-capacity-of .before .before .before .before in
-    long (s .args .table .now) (s .args .queue) (s .args .scratch .now) (s .pre) _ _ _ _ (at-packet-at .packet-at .ensures) _
-    (at-apply .apply .ensures) _ (at-take .take .ensures) _ (at-capacity-of .capacity-of .ensures)
-    (sym (at-stay-roots .stay-roots .ensures) ∙ at-if1 .if1 .left) _ _ _ (at-collect .collect .ensures) _ refl refl
+    long (s .args .table .now) (s .args .queue) (s .args .scratch .now) (s .pre .0) _ _ _ _ (at-packet-at .packet-at .ensures) _
+    (at-apply .apply .ensures) _ (at-take .take .ensures)
+    (at-stay-roots .stay-roots .result) (at-stay-roots .stay-roots .ensures) (at-if1 .if1 .left) _ _ _ (at-collect .collect .ensures) _ refl refl
 
 pub apply-oldest-spec : {M : Type 1} → statement M
 apply-oldest-spec =

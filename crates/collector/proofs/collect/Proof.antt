@@ -1,7 +1,13 @@
+use mathlib.Core.Path.{ap}
+use native.Mathlib.Omega.{arith}
 use borrow.Author.Needs.{needs}
-use Rattle.collector.proofs.Stepping.{collects}
+use Rattle.machine.specs.Table.{scratchWords}
+use Rattle.collector.proofs.StepContract.{collects}
 use Rattle.collector.proofs.collect.Statement.{statement}
 use Rattle.collector.proofs.collect.Tie as tie
+
+capacity-of-requires : tie.Need-capacity-of-requires
+capacity-of-requires c κs = search needs
 
 mark-requires : tie.Need-mark-requires
 mark-requires c κs = search needs
@@ -10,7 +16,11 @@ sweep-requires : tie.Need-sweep-requires
 sweep-requires c κs = search needs
 
 clear-requires : tie.Need-clear-requires
-clear-requires c κs = search needs
+clear-requires c κs =
+    let at-mark = c .before .before .before .before .before .before .before .before in
+    let at-capacity-of = at-mark .before .before .before in
+    let s = at-capacity-of .before .before .before .before in
+    omega (arith, ap scratchWords (at-capacity-of .capacity-of .ensures), s .pre .scratch)
 
 same-length : tie.Need-same-length
 same-length c = search needs
@@ -22,11 +32,19 @@ returns : tie.Need-returns
 returns c =
     let at-sweep = c .before .before .before .before .before .before in
     let at-mark = at-sweep .before .before .before .before .before in
-    let s = at-mark .before .before .before .before .before in
-    collects (s .args .table .now) _ (s .args .scratch .now) _ _ _ _ _ (s .pre .markable .cells) (at-mark .mark .ensures) (at-sweep .sweep .ensures)
-    (c .before .before .clear .ensures)
+    let at-capacity-of = at-mark .before .before .before in
+    let s = at-capacity-of .before .before .before .before in
+    collects (s .args .table .now) _ (s .args .scratch .now) _ _ _ _ _ (at-capacity-of .capacity-of .ensures) (at-mark .mark .ensures)
+    (at-sweep .sweep .ensures) (c .before .before .clear .ensures)
 
 pub collect-spec : {M : Type 1} → statement M
 collect-spec =
     tie.close
-    (tie.spec mark-requires sweep-requires clear-requires same-length same-length-2 returns)
+    (tie.spec
+    capacity-of-requires
+    mark-requires
+    sweep-requires
+    clear-requires
+    same-length
+    same-length-2
+    returns)

@@ -1,11 +1,11 @@
 use mathlib.Core.Logic.{inl, inr, ⊎-elim}
 use mathlib.Core.Path.{refl, ap}
 use borrow.Author.Needs.{needs}
-use Rattle.collector.specs.Fitting.{applyFitting}
+use Rattle.collector.specs.Changes.{applyFitting}
 use Rattle.queue.proofs.Totals.{kind-unknown}
 use Rattle.machine.specs.Packets.{reads, makes, replaces, raises, lowers, unknown, kindOf, changesOf}
 use Rattle.machine.specs.Table.{left, right}
-use Rattle.collector.proofs.Fitting.{applied}
+use Rattle.collector.proofs.Changes.{applied}
 use Rattle.collector.proofs.counts.apply.Statement.{statement}
 use Rattle.collector.proofs.counts.apply.Tie as tie
 

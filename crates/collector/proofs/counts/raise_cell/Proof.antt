@@ -2,8 +2,8 @@ use mathlib.Core.Path.{refl}
 use native.Mathlib.Omega.{arith}
 use borrow.Author.Needs.{needs}
 use Rattle.machine.specs.Packets.{cell}
-use Rattle.collector.proofs.Fitting.{moves-raised, moves-none}
-use Rattle.collector.proofs.Cells.{told, bounds}
+use Rattle.collector.proofs.Changes.{moves-raised, moves-none}
+use Rattle.marks.proofs.Cells.{told, bounds}
 use Rattle.collector.proofs.counts.raise_cell.Statement.{statement}
 use Rattle.collector.proofs.counts.raise_cell.Tie as tie
 
@@ -13,11 +13,11 @@ capacity-of-requires c κs = search needs
 is-cell-requires : tie.Need-is-cell-requires
 is-cell-requires c κs = search needs
 
-sub-place : tie.Need-sub-place
-sub-place c = let b = bounds _ _ (told _ (c .before .before .capacity-of .ensures) (c .before .is-cell .ensures) (c .if1 .taken)) in omega arith
+sub-index : tie.Need-sub-index
+sub-index c = let b = bounds _ _ (told _ (c .before .before .capacity-of .ensures) (c .before .is-cell .ensures) (c .if1 .taken)) in omega arith
 
-cast-place : tie.Need-cast-place
-cast-place c = search needs
+cast-index : tie.Need-cast-index
+cast-index c = search needs
 
 cell-count-requires : tie.Need-cell-count-requires
 cell-count-requires c κs =
@@ -62,8 +62,8 @@ raise-cell-spec =
     (tie.spec
     capacity-of-requires
     is-cell-requires
-    sub-place
-    cast-place
+    sub-index
+    cast-index
     cell-count-requires
     raised-requires
     set-cell-count-requires

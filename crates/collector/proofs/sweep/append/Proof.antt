@@ -1,5 +1,5 @@
 use borrow.Author.Needs.{needs}
-use Rattle.collector.proofs.Swept.{append-none, append-some}
+use Rattle.collector.proofs.SweepLoop.{append-none, append-some}
 use Rattle.collector.proofs.sweep.append.Statement.{statement}
 use Rattle.collector.proofs.sweep.append.Tie as tie
 
@@ -9,8 +9,8 @@ first-free-requires c κs = search needs
 last-free-requires : tie.Need-last-free-requires
 last-free-requires c κs = search needs
 
-set-cell-requires : tie.Need-set-cell-requires
-set-cell-requires c κs = search needs
+set-free-requires : tie.Need-set-free-requires
+set-free-requires c κs = search needs
 
 add-set-ends : tie.Need-add-set-ends
 add-set-ends c = search needs
@@ -27,11 +27,11 @@ same-length c = search needs
 returns : tie.Need-returns
 returns c =
     let at-if1 = c .before .before .before .before in
-    let at-set-cell = at-if1 .before .before .before in
-    let at-last-free = at-set-cell .before .before in
+    let at-set-free = at-if1 .before .before .before in
+    let at-last-free = at-set-free .before .before in
     let start = at-last-free .before .before .before .before .before in
     let i = start .args in
-    append-none (i .table .now) (i .place) _ (at-last-free .last-free .ensures) _ (at-set-cell .set-cell .ensures) (at-if1 .if1 .taken) _
+    append-none (i .table .now) (i .index) _ (at-last-free .last-free .ensures) _ (at-set-free .set-free .ensures) (at-if1 .if1 .taken) _
     (c .before .before .set-ends .ensures)
 
 sub-set-field : tie.Need-sub-set-field
@@ -59,12 +59,12 @@ returns-2 : tie.Need-returns-2
 returns-2 c =
     let at-set-field = c .before .before .before .before .before .before in
     let at-if1 = at-set-field .before .before in
-    let at-set-cell = at-if1 .before .before .before in
-    let at-last-free = at-set-cell .before .before in
+    let at-set-free = at-if1 .before .before .before in
+    let at-last-free = at-set-free .before .before in
     let at-first-free = at-last-free .before .before in
     let start = at-first-free .before .before .before in
     let i = start .args in
-    append-some (i .table .now) (i .place) _ (at-last-free .last-free .ensures) _ (at-set-cell .set-cell .ensures) (at-if1 .if1 .left) _
+    append-some (i .table .now) (i .index) _ (at-last-free .last-free .ensures) _ (at-set-free .set-free .ensures) (at-if1 .if1 .left) _
     (at-first-free .first-free .ensures) _ _ (at-set-field .set-field .ensures) (c .before .before .set-ends2 .ensures)
 
 pub append-spec : {M : Type 1} → statement M
@@ -73,7 +73,7 @@ append-spec =
     (tie.spec
     first-free-requires
     last-free-requires
-    set-cell-requires
+    set-free-requires
     add-set-ends
     add-set-ends-2
     set-ends-requires

@@ -1,6 +1,6 @@
 use mathlib.Core.Path.{_∙_}
 use borrow.Author.Needs.{needs}
-use Rattle.collector.proofs.Swept.{end-none, end-some}
+use Rattle.collector.proofs.SweepLoop.{end-none, end-some}
 use Rattle.collector.proofs.sweep.end_left.Statement.{statement}
 use Rattle.collector.proofs.sweep.end_left.Tie as tie
 

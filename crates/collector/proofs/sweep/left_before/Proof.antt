@@ -1,6 +1,6 @@
 use mathlib.Core.Path.{_∙_}
 use borrow.Author.Needs.{needs}
-use Rattle.collector.proofs.Swept.{before-end, before-other}
+use Rattle.collector.proofs.SweepLoop.{before-end, before-other}
 use Rattle.collector.proofs.sweep.left_before.Statement.{statement}
 use Rattle.collector.proofs.sweep.left_before.Tie as tie
 

@@ -5,10 +5,10 @@ use native.Mathlib.Omega.{arith}
 use lib.ListN.{length}
 use borrow.Author.Needs.{needs}
 use Rattle.machine.specs.Table.{capacity}
-use Rattle.collector.specs.Sweeping.{isDead}
+use Rattle.collector.specs.SweepPass.{isDead}
 use Rattle.machine.specs.Range.{select}
-use Rattle.collector.proofs.Swept.{at-place, pass-table, pass-number, sweeps-all}
-use Rattle.collector.proofs.Pass.{passedTo, passed-none, length-select-le}
+use Rattle.collector.proofs.SweepLoop.{at-cell, pass-table, pass-number, sweeps-all}
+use Rattle.collector.proofs.SweepPass.{passedTo, passed-none, length-select-le}
 use Rattle.collector.proofs.sweep.sweep.Statement.{statement}
 use Rattle.collector.proofs.sweep.sweep.Tie as tie
 
@@ -39,7 +39,7 @@ sweep-cell-requires : tie.Need-sweep-cell-requires Inv-loop μ-loop
 sweep-cell-requires c κs =
     let s = c .before .before .before .before .before .before .before .before .before .before .before in
     let l = c .before .before .loop in
-    at-place (s .args .table .now) (s .args .scratch .now) (s .pre) (l .i) (omega arith) (l .table) (l .inv .2)
+    at-cell (s .args .table .now) (s .args .scratch .now) (s .pre .0) (l .i) (omega arith) (s .pre .1) (l .table) (l .inv .2)
 
 add-freed : tie.Need-add-freed Inv-loop μ-loop
 add-freed c =
@@ -68,8 +68,8 @@ loop-again c =
     let h : l .i < capacity t = omega arith in (
       omega arith,
       omega arith,
-      pass-table t m (s .pre) (l .i) h (l .table) _ _ _ _ (l .inv .2) (at-last-free .last-free .ensures) (at-end-left .end-left .ensures) p,
-      pass-number t m (s .pre) (l .i) h (l .table) _ _ _ _ (l .freed) (l .inv .2) p (l .inv .3),
+      pass-table t m (s .pre .0) (l .i) h (l .table) _ _ _ _ (l .inv .2) (at-last-free .last-free .ensures) (at-end-left .end-left .ensures) p,
+      pass-number t m (s .pre .0) (l .i) h (l .table) _ _ _ _ (l .freed) (l .inv .2) p (l .inv .3),
     )
 
 same-length : tie.Need-same-length Inv-loop μ-loop
@@ -79,7 +79,7 @@ returns : tie.Need-returns Inv-loop μ-loop
 returns c =
     let s = c .before .before .before .before .before .before .before .before .before .before in
     let l = c .before .loop in
-    sweeps-all (s .args .table .now) (s .args .scratch .now) (s .pre) (l .i) (omega arith) (l .table) (l .freed) (l .inv .2) (l .inv .3)
+    sweeps-all (s .args .table .now) (s .args .scratch .now) (s .pre .0) (l .i) (omega arith) (l .table) (l .freed) (l .inv .2) (l .inv .3)
 
 pub sweep-spec : {M : Type 1} → statement M
 sweep-spec =

@@ -23,7 +23,7 @@ abbrev μ-loop : tie.MeasureT-loop
 loop-holds : tie.Need-loop-holds Inv-loop μ-loop
 loop-holds c = let s = c .before in
     let q = s .args .t1 in
-    (omega arith, s .pre .1, s .pre .0, refl, named-start (s .args .c) q (q .place) (stack (s .args .scratch .now) (s .args .first)) (s .pre .4))
+    (omega arith, s .pre .0 .count, s .pre .0 .place, refl, named-start (s .args .c) q (q .place) (stack (s .args .scratch .now) (s .args .first)) (s .pre .3))
 
 add-j : tie.Need-add-j Inv-loop μ-loop
 add-j c = search needs

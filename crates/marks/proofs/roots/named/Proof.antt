@@ -17,7 +17,7 @@ abbrev μ-loop : tie.MeasureT-loop
 μ-loop w queue place count found₀ i₀ found i = count - i
 
 loop-holds : tie.Need-loop-holds Inv-loop μ-loop
-loop-holds c = (omega arith, c .pre .1, c .pre .0, c .pre .2, named-none (c .args .t1) (c .args .t1 .place) (c .args .w))
+loop-holds c = (omega arith, c .pre .0 .count, c .pre .0 .place, c .pre .1, named-none (c .args .t1) (c .args .t1 .place) (c .args .w))
 
 add-j : tie.Need-add-j Inv-loop μ-loop
 add-j c = search needs

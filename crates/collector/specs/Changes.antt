@@ -5,9 +5,10 @@ use mathlib.Core.List.{List, [], _∷_}
 use Prim.Native.Nat.{ℕ, pred, _+_, _<_}
 use lib.Dec.{leb}
 use Rattle.machine.specs.Words.{isCell}
-use Rattle.machine.specs.Table.{capacity, lastFree, wordAt}
+use Rattle.machine.specs.Table.{capacity, wordAt}
 use Rattle.machine.specs.Packets.{Counter, Direction, plus, minus, Change}
 use Rattle.machine.specs.Step.{counterWord, shifted, moveCount}
+use Rattle.machine.specs.Facts.{TableShape}
 
 -- a count raised by n leaves a word of 16 bits
 abbrev pub tooLarge : Direction → ℕ → ℕ → Bool
@@ -28,8 +29,8 @@ ChangesFit t (h ∷ hs) =
     (isCell (capacity t) (h .word) ≡ true → shifted (h .direction) (wordAt t (pred (h .word)) (counterWord (h .counter))) (h .amount) < 65536)
     × ChangesFit (moveCount t (h .counter) (h .word) (h .direction) (h .amount)) hs
 
--- one counter moved, C and the chain's end as they were
+-- one counter moved: C stands, and question 1 has the answer that it had
 pub record Moves (t : List ℕ) (k : Counter) (w : ℕ) (d : Direction) (n : ℕ) (t′ : List ℕ) : Type 0 where
   pub moved : t′ ≡ moveFitting t k w d n
   pub sameCapacity : capacity t′ ≡ capacity t
-  pub sameLast : lastFree t′ ≡ lastFree t
+  pub shape : (TableShape t → TableShape t′)

@@ -9,13 +9,14 @@ use lib.Dec.{leb}
 use borrow.Author.Tests.{lt-leb}
 use Rattle.machine.specs.Counters.{Raised}
 use Rattle.machine.specs.Words.{isCell}
-use Rattle.machine.specs.Table.{capacity, lastFree, wordAt, putWord}
+use Rattle.machine.specs.Table.{capacity, wordAt, putWord}
 use Rattle.machine.specs.Packets.{Counter, Direction, plus, minus, Change, Kind, kindOf, changesOf}
 use Rattle.machine.specs.Step.{counterWord, shifted, moveCount, applyChanges}
+use Rattle.machine.specs.Facts.{TableShape}
 use Rattle.machine.proofs.Range.{tested}
 use Rattle.machine.proofs.Table.{put-itself}
-use Rattle.machine.proofs.Moves.{capacity-move, lastFree-move}
-use Rattle.collector.specs.Fitting.{tooLarge, moveFitting, applyFitting, ChangesFit, Moves}
+use Rattle.machine.proofs.Moves.{length-move, capacity-move, firstFree-move, lastFree-move}
+use Rattle.collector.specs.Changes.{tooLarge, moveFitting, applyFitting, ChangesFit, Moves}
 
 either : {A : Type 0} (b : Bool) (x : A) → cond b x x ≡ x
 either true x = refl
@@ -30,11 +31,28 @@ fitting-keeps P t k w d n h g = go (tooLarge d (wordAt t (pred w) (counterWord k
     go true = h
     go false = g
 
+-- question 1's answer stands
+pub shape-move : (t : List ℕ) (k : Counter) (w : ℕ) (d : Direction) (n : ℕ) → TableShape t → TableShape (moveCount t k w d n)
+shape-move t k w d n h = record {
+  some = rw (capacity-move t k w d n) (h .some);
+  most = rw (capacity-move t k w d n) (h .most);
+  first = rw (firstFree-move t k w d n, capacity-move t k w d n) (h .first);
+  last = rw (lastFree-move t k w d n, capacity-move t k w d n) (h .last);
+  room = rw (capacity-move t k w d n, length-move t k w d n) (h .room);
+}
+
+pub shape-fitting : (t : List ℕ) (hs : List Change) → TableShape t → TableShape (applyFitting t hs)
+unfolding applyFitting
+shape-fitting t [] s = s
+shape-fitting t (h ∷ hs) s =
+    shape-fitting (moveFitting t (h .counter) (h .word) (h .direction) (h .amount)) hs
+    (fitting-keeps TableShape t (h .counter) (h .word) (h .direction) (h .amount) s (shape-move t (h .counter) (h .word) (h .direction) (h .amount) s))
+
 moves : (t : List ℕ) (k : Counter) (w : ℕ) (d : Direction) (n : ℕ) (t′ : List ℕ) → t′ ≡ moveFitting t k w d n → Moves t k w d n t′
 moves t k w d n t′ e = record {
   moved = e;
   sameCapacity = ap capacity e ∙ fitting-keeps (λ u. capacity u ≡ capacity t) t k w d n refl (capacity-move t k w d n);
-  sameLast = ap lastFree e ∙ fitting-keeps (λ u. lastFree u ≡ lastFree t) t k w d n refl (lastFree-move t k w d n);
+  shape = λ h. rw e (fitting-keeps TableShape t k w d n h (shape-move t k w d n h));
 }
 
 -- a word that is no cell has no counter
@@ -44,7 +62,7 @@ moves-none t k w d n h = moves t k w d n t same
     same : t ≡ moveFitting t k w d n
     same = unfold moveFitting moveCount in rw h (sym (either (tooLarge d (wordAt t (pred w) (counterWord k)) n) t))
 
--- the counter of a cell, read and written at place i
+-- the counter of a cell, read and written at index i
 pub moves-lowered : (t : List ℕ) (k : Counter) (w n i v : ℕ) → isCell (capacity t) w ≡ true → i ≡ w - 1 → v ≡ wordAt t i (counterWord k) - n
     → (t′ : List ℕ) → t′ ≡ putWord t i (counterWord k) v → Moves t k w minus n t′
 moves-lowered t k w n i v h e f t′ g = moves t k w minus n t′ (g ∙ same)

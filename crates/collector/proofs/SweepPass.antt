@@ -6,27 +6,29 @@ use mathlib.Core.List.{List, [], _∷_, _++_, append-nil}
 use Prim.Native.Nat.{ℕ, zero, suc, pred, _+_, _≤_, _<_}
 use native.Mathlib.Omega.{arith}
 use lib.Dec.{ltb, eqb}
-use lib.ListN.{length, getD, length-append}
+use lib.ListN.{length, length-append}
 use borrow.Author.Tests.{eqb-true, eqb-false, eq-eqb, ne-eqb}
 use Rattle.machine.specs.Range.{select}
-use Rattle.machine.specs.Table.{stride, left, right, state, capacity, lastFree, tableLength, wordAt, inUse}
+use Rattle.machine.specs.Table.{stride, left, right, state, capacity, firstFree, lastFree, tableLength, wordAt, inUse}
 use Rattle.machine.specs.Packets.{cell, minus}
 use Rattle.machine.specs.Step.{moveCount, lowerPointers, join, joinAll, swept}
+use Rattle.machine.specs.Facts.{TableShape}
 use Rattle.machine.proofs.Range.{tested}
-use Rattle.machine.proofs.Chain.{Places}
+use Rattle.machine.proofs.Lists.{Places}
 use Rattle.machine.proofs.Moves.{length-move, capacity-move, lastFree-move, word-move}
 use Rattle.machine.proofs.Sweep.{joins}
 use Rattle.machine.proofs.Select.{select-places}
 use Rattle.machine.proofs.Commute.{join-move}
-use Rattle.collector.specs.Sweeping.{isDead, freed, endLeft, leftBefore, passed}
+use Rattle.marks.specs.Marks.{isMarked}
+use Rattle.collector.specs.SweepPass.{isDead, freed, endLeft, leftBefore, passed}
+use Rattle.collector.proofs.Changes.{shape-move}
 
 -- a table that passes question 1, of c cells
 pub record Good (c : ℕ) (t : List ℕ) : Type 0 where
   pub cells : capacity t ≡ c
-  pub room : tableLength c ≤ length t
-  pub last : lastFree t ≤ c
+  pub shape : TableShape t
 
--- both pointers out of the cell at place i, the left one given, lower a count
+-- both pointers out of the cell at index i, the left one given, lower a count
 lower : List ℕ → ℕ → ℕ → List ℕ
 lower t i l = moveCount (moveCount t cell l minus 1) cell (wordAt t i right) minus 1
 
@@ -46,24 +48,35 @@ module _ (t : List ℕ) (i l : ℕ) where
   unfolding lower
   lower-good c g = record {
     cells = capacity-move t₁ cell (wordAt t i right) minus 1 ∙ capacity-move t cell l minus 1 ∙ g .cells;
-    room = rw (length-move t₁ cell (wordAt t i right) minus 1, length-move t cell l minus 1) (g .room);
-    last = rw (lastFree-move t₁ cell (wordAt t i right) minus 1, lastFree-move t cell l minus 1) (g .last);
+    shape = shape-move t₁ cell (wordAt t i right) minus 1 (shape-move t cell l minus 1 (g .shape));
   }
 
 module _ (c : ℕ) (t : List ℕ) (g : Good c t) (i : ℕ) (h : i < c) where
   room-of : tableLength (capacity t) ≤ length t
-  room-of = rw (g .cells) (g .room)
+  room-of = g .shape .room
 
   below : i < capacity t
   below = rw (g .cells) h
 
   last-of : lastFree t ≤ capacity t
-  last-of = rw (g .cells) (g .last)
+  last-of = g .shape .last
 
   join-good : Good c (join t i)
   join-good =
       let j = joins t i room-of below last-of in
-      record { cells = j .sameCapacity ∙ g .cells; room = rw (j .sameLength) (g .room); last = rw (j .newLast) h }
+      let s = g .shape in
+      record {
+        cells = j .sameCapacity ∙ g .cells;
+        shape = record {
+          some = rw (j .sameCapacity) (s .some);
+          most = rw (j .sameCapacity) (s .most);
+          first = rw (j .sameCapacity)
+              (⊎-elim (λ e. rw (j .newFirst (eqb-true (lastFree t) 0 e)) below) (λ e. rw (j .sameFirst (eqb-false (lastFree t) 0 e)) (s .first))
+              (tested (eqb (lastFree t) 0)));
+          last = rw (j .newLast, j .sameCapacity) below;
+          room = rw (j .sameCapacity, j .sameLength) (s .room);
+        };
+      }
 
   -- other cells' words stand, but for the left word of the chain's end
   join-word : (j k : ℕ) → k < stride → j ≢ i → (k ≡ left → suc j ≢ lastFree t) → wordAt (join t i) j k ≡ wordAt t j k
@@ -81,7 +94,7 @@ module _ (c : ℕ) (t : List ℕ) (g : Good c t) (i : ℕ) (h : i < c) where
       ∙ join-move t₁ i (wordAt t j right) 1 (rw (capacity-move t cell l minus 1, length-move t cell l minus 1) room-of)
       (rw (capacity-move t cell l minus 1) below) (rw (lastFree-move t cell l minus 1, capacity-move t cell l minus 1) last-of)
 
--- no place of the list is i
+-- no index of the list is i
 abbrev Without : ℕ → List ℕ → Type 0
 Without i [] = Unit {0}
 Without i (j ∷ is) = (j ≢ i) × Without i is
@@ -90,7 +103,7 @@ abbrev Distinct : List ℕ → Type 0
 Distinct [] = Unit {0}
 Distinct (i ∷ is) = Without i is × Distinct is
 
--- the left words of the cells at these places
+-- the left words of the cells at these indices
 module _ (l : ℕ → ℕ) where
   lowerAll : List ℕ → List ℕ → List ℕ
   lowerAll t [] = t
@@ -199,7 +212,7 @@ module _ (t s : List ℕ) where
   abbrev lefts : ℕ → ℕ
   lefts i = wordAt t i left
 
-  -- the table after the pass over the first n places
+  -- the table after the pass over the first n cells
   pub passedTo : ℕ → List ℕ
   passedTo n = freeAll lefts t (select n (isDead t s))
 
@@ -216,7 +229,7 @@ module _ (t s : List ℕ) where
       -- a cell that the pass has not come to is dead as before, and its left word is known
       pub still-dead : isDead (passedTo n) s n ≡ isDead t s n
       unfolding isDead inUse
-      still-dead = ap (λ (w : ℕ). not (ltb 0 (getD s n 0)) && ltb 0 w) (here .words state (omega arith) (omega arith) (omega arith))
+      still-dead = ap (λ (w : ℕ). not (isMarked s n) && ltb 0 w) (here .words state (omega arith) (omega arith) (omega arith))
 
       left-known : leftBefore (passedTo n) (lastFree t) (endLeft t (lastFree t)) n ≡ wordAt t n left
       unfolding leftBefore endLeft

@@ -2,20 +2,20 @@
 use mathlib.Core.Path.{_≡_}
 use mathlib.Core.Bool.{Bool, cond, not, _&&_}
 use mathlib.Core.List.{List}
-use Prim.Native.Nat.{ℕ, suc, pred, _<_, _≤_}
-use lib.Dec.{ltb, eqb}
-use lib.ListN.{length, getD}
+use Prim.Native.Nat.{ℕ, suc, pred, _≤_}
+use lib.Dec.{eqb}
+use lib.ListN.{length}
 use Rattle.machine.specs.Range.{select}
-use Rattle.machine.specs.Words.{mostCells}
-use Rattle.machine.specs.Table.{left, right, capacity, lastFree, tableLength, wordAt, inUse}
+use Rattle.machine.specs.Table.{left, right, capacity, wordAt, inUse}
 use Rattle.machine.specs.Packets.{cell, minus}
 use Rattle.machine.specs.Step.{moveCount, join, swept}
+use Rattle.marks.specs.Marks.{isMarked}
 
 -- in use and not marked in the scratch s
 unfoldable pub isDead : List ℕ → List ℕ → ℕ → Bool
-isDead t s i = not (ltb 0 (getD s i 0)) && inUse t i
+isDead t s i = not (isMarked s i) && inUse t i
 
--- the cell at place i, whose left word is l, freed
+-- the cell at index i, whose left word is l, freed
 unfoldable pub freed : List ℕ → ℕ → ℕ → List ℕ
 freed t i l = join (moveCount (moveCount t cell l minus 1) cell (wordAt t i right) minus 1) i
 
@@ -23,31 +23,18 @@ freed t i l = join (moveCount (moveCount t cell l minus 1) cell (wordAt t i righ
 unfoldable pub endLeft : List ℕ → ℕ → ℕ
 endLeft t end = cond (eqb end 0) 0 (wordAt t (pred end) left)
 
--- the left word that place i had before the pass: only that of the chain's end is another by now
+-- the left word that the cell at index i had before the pass: only that of the chain's end is another by now
 unfoldable pub leftBefore : List ℕ → ℕ → ℕ → ℕ → ℕ
 leftBefore t end l i = cond (eqb (suc i) end) l (wordAt t i left)
 
--- one place of the pass
+-- one cell of the pass
 unfoldable pub passed : List ℕ → List ℕ → ℕ → ℕ → ℕ → List ℕ
 passed t s end l i = cond (isDead t s i) (freed t i (leftBefore t end l i)) t
-
--- a place of the pass over a table that passes question 1
-pub record Placed (t : List ℕ) (i : ℕ) : Type 0 where
-  pub room : tableLength (capacity t) ≤ length t
-  pub place : i < capacity t
-  pub last : lastFree t ≤ capacity t
-  pub most : capacity t ≤ mostCells
 
 pub record Passes (t s : List ℕ) (i end l : ℕ) (t′ : List ℕ) (n : ℕ) : Type 0 where
   pub table : t′ ≡ passed t s end l i
   pub number : n ≡ cond (isDead t s i) 1 0
   pub few : n ≤ 1
-
-pub record Sweepable (t s : List ℕ) : Type 0 where
-  pub room : tableLength (capacity t) ≤ length t
-  pub last : lastFree t ≤ capacity t
-  pub most : capacity t ≤ mostCells
-  pub enough : capacity t ≤ length s
 
 -- the table swept by the marks in s, and the number of cells freed
 pub record Sweeps (t s t′ : List ℕ) (n : ℕ) : Type 0 where

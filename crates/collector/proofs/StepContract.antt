@@ -1,0 +1,265 @@
+-- The step's contract, from what its parts do.
+use mathlib.Core.Path.{_≡_, refl, sym, ap, _∙_}
+use mathlib.Core.Logic.{⊎-elim}
+use mathlib.Core.Bool.{Bool, true, false, cond, not, _&&_, and-comm}
+use mathlib.Core.List.{List, [], _∷_}
+use Prim.Native.Nat.{ℕ, suc, pred, _<_}
+use native.Mathlib.Omega.{arith}
+use lib.ListN.{length}
+use Rattle.machine.specs.declared.Queue.{Queue}
+use Rattle.machine.specs.declared.Asked
+use Rattle.machine.specs.declared.Asked.{Asked}
+use Rattle.machine.specs.declared.Refusal.{Refusal}
+use Rattle.machine.specs.declared.Refusal.the-variants.{StoreOutOfRange, ScratchTooShort, NumberOutOfRange, IllegalWord, NotACell, NotHeld, QueueFull, NoFreeCell, HeldCountTooHigh, TooManyPointers}
+use Rattle.machine.specs.declared.StepAnswer
+use Rattle.machine.specs.declared.StepAnswer.{StepAnswer}
+use Rattle.machine.specs.Range.{select}
+use Rattle.machine.specs.Table.{capacity, scratchWords, inUse}
+use Rattle.machine.specs.Queue.{Packet, packet, putSlot, packetsFrom, waiting, taken}
+use Rattle.machine.specs.Packets.{Change, kindOf, changesOf, changes}
+use Rattle.machine.specs.Reached.{reached}
+use Rattle.machine.specs.Calls.{step, refused, idle, applied, store}
+use Rattle.machine.specs.Step.{moveCount, applyChanges, unreached, joinAll, lowerPointers, swept, cleared, outcome, stepWith, stepFrom, stepped}
+use Rattle.machine.specs.Questions.{firstNo, early}
+use Rattle.machine.specs.Answers.{refusalNumber, askedNumber, stepReply}
+use Rattle.machine.specs.Promise.{Untouched}
+use Rattle.machine.specs.Facts.{TableShape, Lent}
+use Rattle.machine.proofs.Range.{tested}
+use Rattle.machine.proofs.Ring.{waiting-taken}
+use Rattle.machine.proofs.Scratch.{length-cleared, past-cleared, cleared-same}
+use Rattle.machine.proofs.Select.{select-places}
+use Rattle.machine.proofs.Sweep.{sweeps}
+use Rattle.machine.proofs.Questions.{firstNo-all, early-numbered, lent-is}
+use Rattle.machine.proofs.Kept.{Framed, framed-changes}
+use Rattle.marks.specs.Names.{stayRoots}
+use Rattle.marks.specs.Marks.{isMarked, Marks}
+use Rattle.collector.specs.declared.Stepped.{Stepped}
+use Rattle.collector.specs.Changes.{tooLarge, moveFitting, applyFitting}
+use Rattle.collector.specs.SweepPass.{isDead, Sweeps}
+use Rattle.collector.specs.Steps.{oldest, Premises, collected, freedNumber, Collects, Applies, Steps}
+use Rattle.collector.proofs.Changes.{apply-fits, shape-fitting}
+use Rattle.collector.proofs.SweepPass.{select-same}
+use Rattle.collector.proofs.ShortWay.{nothing-freed}
+
+-- mark and sweep
+pub collects : (t : List ℕ) (ps : List Packet) (s s₁ t′ s′ : List ℕ) (c n : ℕ)
+    → c ≡ capacity t → Marks t ps s s₁ → Sweeps t s₁ t′ n → s′ ≡ cleared (scratchWords c) s₁ → Collects t ps s t′ s′ n
+collects t ps s s₁ t′ s′ c n e m w f = record {
+  table = w .table ∙ ap (swept t) dead;
+  number = w .number ∙ ap length dead;
+  scratch = f ∙ ap (λ (k : ℕ). cleared (scratchWords k) s₁) e ∙ cleared-same (scratchWords (capacity t)) s s₁ (m .past);
+}
+  where
+    dead : select (capacity t) (isDead t s₁) ≡ unreached t ps
+    dead =
+        unfold unreached in
+        select-same (capacity t) (isDead t s₁) (λ i. inUse t i && not (reached t ps i))
+        (λ i l. unfold isDead in (ap (λ (b : Bool). not b && inUse t i) (m .marks i l) ∙ and-comm (not (reached t ps i)) (inUse t i)))
+
+-- changes that fit are some of the changes, so what stands under changes stands
+fitting-some : (t : List ℕ) (hs : List Change) → (gs : List Change) × (applyFitting t hs ≡ applyChanges t gs)
+unfolding applyFitting applyChanges moveFitting
+fitting-some t [] = ([], refl)
+fitting-some t (h ∷ hs) = (go (tooLarge (h .direction) _ (h .amount)) (fitting-some t hs) (fitting-some (moveCount t (h .counter) (h .word) (h .direction) (h .amount)) hs))
+  where
+    go : (b : Bool) → (gs : List Change) × (applyFitting t hs ≡ applyChanges t gs) → (gs : List Change) × (applyFitting (moveCount t (h .counter) (h .word) (h .direction) (h .amount)) hs ≡ applyChanges (moveCount t (h .counter) (h .word) (h .direction) (h .amount)) gs)
+        → (gs : List Change) × (applyFitting (cond b t (moveCount t (h .counter) (h .word) (h .direction) (h .amount))) hs ≡ applyChanges t gs)
+    go true g f = g
+    go false g f = (h ∷ f .0, f .1)
+
+framed-fitting : (t : List ℕ) (hs : List Change) → Framed t (applyFitting t hs)
+framed-fitting t hs = let g = fitting-some t hs in rw (g .1) (framed-changes t (g .0) .0)
+
+-- the table that the code leaves
+module _ (t : List ℕ) (q : Queue) (s : List ℕ) (h : Lent t q s) (some : 0 < q .count) where
+  abbrev p : Packet
+  p = oldest q
+
+  abbrev ps : List Packet
+  ps = waiting (taken q)
+
+  abbrev t₁ : List ℕ
+  t₁ = applyFitting t (changes p)
+
+  framed-collected : Framed t (collected t₁ ps p)
+  unfolding collected
+  framed-collected = go (stayRoots t₁ ps p)
+    where
+      f : Framed t t₁
+      f = framed-fitting t (changes p)
+
+      k : TableShape t₁
+      k = shape-fitting t (changes p) (h .shape .table)
+
+      go : (b : Bool) → Framed t (cond b t₁ (swept t₁ (unreached t₁ ps)))
+      go true = f
+      go false =
+          let w = sweeps t₁ (unreached t₁ ps) (k .room) (unfold unreached in select-places (capacity t₁) (λ i. inUse t₁ i && not (reached t₁ ps i))) (k .last) in
+          record {
+            sameLength = w .sameLength ∙ f .sameLength;
+            sameCapacity = w .sameCapacity ∙ f .sameCapacity;
+            pastCells = (rw (f .sameCapacity) at (w .pastCells)) ∙ f .pastCells;
+          }
+
+  oldest-first : waiting q ≡ p ∷ ps
+  oldest-first = waiting-taken q (pred (q .count)) (h .shape .queue .place) (h .shape .queue .count) (omega arith)
+
+  -- on a store that meets the premises the short way gives what the long way gives
+  nothing : Premises t q → stayRoots t₁ ps p ≡ true → unreached t₁ ps ≡ []
+  nothing m e =
+      let fit = apply-fits t (changes p) (m .fit) in
+      rw fit (nothing-freed t p ps (h .shape .table .room) (rw fit at e) (rw oldest-first at (m .live)))
+
+  collected-is : Premises t q → collected t₁ ps p ≡ swept t₁ (unreached t₁ ps)
+  unfolding collected
+  collected-is m =
+      ⊎-elim (λ (e : stayRoots t₁ ps p ≡ true). rw (e, nothing m e) (unfold swept joinAll lowerPointers in refl))
+      (λ (e : stayRoots t₁ ps p ≡ false). rw e) (tested (stayRoots t₁ ps p))
+
+  number-is : Premises t q → freedNumber t₁ ps p ≡ length (unreached t₁ ps)
+  unfolding freedNumber
+  number-is m =
+      ⊎-elim (λ (e : stayRoots t₁ ps p ≡ true). rw (e, nothing m e)) (λ (e : stayRoots t₁ ps p ≡ false). rw e) (tested (stayRoots t₁ ps p))
+
+  stepped-is : stepped (store t q s) ≡ stepWith (store t q s) p ps
+  unfolding stepped
+  stepped-is = rw oldest-first (unfold stepFrom in refl)
+
+  exact : Premises t q → outcome (applied (p .kind) (freedNumber t₁ ps p)) (store (collected t₁ ps p) (taken q) (cleared (scratchWords (capacity t)) s)) ≡ stepped (store t q s)
+  exact m =
+      rw (collected-is m, number-is m, ← framed-fitting t (changes p) .sameCapacity, apply-fits t (changes p) (m .fit), stepped-is)
+      (unfold stepWith in refl)
+
+refusal-some : (x : Refusal) → 0 < refusalNumber x
+refusal-some StoreOutOfRange = omega arith
+refusal-some ScratchTooShort = omega arith
+refusal-some NumberOutOfRange = omega arith
+refusal-some IllegalWord = omega arith
+refusal-some NotACell = omega arith
+refusal-some NotHeld = omega arith
+refusal-some QueueFull = omega arith
+refusal-some NoFreeCell = omega arith
+refusal-some HeldCountTooHigh = omega arith
+refusal-some TooManyPointers = omega arith
+
+-- what questions 1 and 2 say
+module _ (t : List ℕ) (q : Queue) (s : List ℕ) where
+  abbrev asks : ℕ
+  asks = firstNo (early (store t q s) step)
+
+  pub says-yes : (x : Asked) → askedNumber x ≡ asks → x ≡ Asked.Yes → asks ≡ 0
+  says-yes x e y = sym e ∙ ap askedNumber y
+
+  pub says-no : (x : Asked) (n : Refusal) → askedNumber x ≡ asks → x ≡ Asked.No n → refusalNumber n ≡ asks
+  says-no x n e y = sym (ap askedNumber y) ∙ e
+
+  pub asked-lent : asks ≡ 0 → Lent t q s
+  unfolding early
+  asked-lent a =
+      let yes = firstNo-all (early (store t q s) step) (early-numbered (store t q s) step) a in
+      lent-is t q s (yes .0) (yes .1 .0)
+
+  untouched : (q′ : Queue) → Untouched (store t q s) (store t q′ s)
+  untouched q′ = record { sameLength = refl; sameCapacity = refl; pastCells = refl; scratchLength = refl; pastScratch = refl }
+
+  pub refuses : (x : Refusal) → refusalNumber x ≡ asks → (r : Stepped) → stepReply (r .answer) ≡ refused (refusalNumber x) → r .queue ≡ q → Steps t q s r t s
+  refuses x a r e f = record {
+    asked = λ n g. (e ∙ ap refused (a ∙ g), ap (λ (z : Queue). store t z s) f);
+    answered = λ n g. absurd (never g);
+    idles = λ g. absurd (never g);
+    replies = λ g. absurd (never g);
+    takes = λ g. absurd (never g);
+    exact = λ g. absurd (never g);
+    bounded = untouched (r .queue);
+  }
+    where
+      never : asks ≡ 0 → ⊥
+      never g = omega (arith, refusal-some x)
+
+  none-waiting : q .count ≡ 0 → stepped (store t q s) ≡ outcome idle (store t q s)
+  unfolding stepped waiting packetsFrom stepFrom
+  none-waiting e = rw e
+
+  pub idles : asks ≡ 0 → q .count ≡ 0 → (r : Stepped) → stepReply (r .answer) ≡ idle → r .queue ≡ q → Steps t q s r t s
+  idles a z r e f = record {
+    asked = λ n g. absurd (omega arith);
+    answered = λ n g d. let x : _≡_ {A = ℕ} 0 1 = cc in omega arith;
+    idles = λ g d. (e, same);
+    replies = λ g d. absurd (omega arith);
+    takes = λ g d. absurd (omega arith);
+    exact = λ g m. rw e (ap (outcome idle) same ∙ sym (none-waiting z));
+    bounded = untouched (r .queue);
+  }
+    where
+      same : store t (r .queue) s ≡ store t q s
+      same = ap (λ (x : Queue). store t x s) f
+
+  pub applies : asks ≡ 0 → 0 < q .count → (r : Stepped) (t′ s′ : List ℕ) → Applies t q s r t′ s′ → Steps t q s r t′ s′
+  applies a some r t′ s′ p = record {
+    asked = λ n g. absurd (omega arith);
+    answered = λ n g d. let x : _≡_ {A = ℕ} 0 1 = cc (ap stepReply (p .answer)) in omega arith;
+    idles = λ g d. absurd (omega arith);
+    replies = λ g d. (_, ap stepReply (p .answer));
+    takes = λ g d. (p .queue, p .scratch);
+    exact = λ g m. rw (p .table, p .answer, p .queue, p .scratch) (exact t q s h some m);
+    bounded = rw (p .table, p .queue, p .scratch) (record {
+      sameLength = f .sameLength;
+      sameCapacity = f .sameCapacity;
+      pastCells = f .pastCells;
+      scratchLength = length-cleared (scratchWords (capacity t)) s (h .scratch);
+      pastScratch = past-cleared (scratchWords (capacity t)) s;
+    });
+  }
+    where
+      h : Lent t q s
+      h = asked-lent a
+
+      f : Framed t (collected (applyFitting t (changes (oldest q))) (waiting (taken q)) (oldest q))
+      f = framed-collected t q s h some
+
+-- the packet read and applied, and the queue behind it
+module _ (t : List ℕ) (q : Queue) (s : List ℕ) (h : Lent t q s) (k a b d : ℕ) (e : packet k a b d ≡ oldest q) (t₁ : List ℕ) (f : t₁ ≡ applyFitting t (changesOf (kindOf k) a b))
+    (rest : Queue) (g : rest ≡ taken q) where
+  applied-oldest : t₁ ≡ applyFitting t (changes (oldest q))
+  applied-oldest = f ∙ rw (← e) (unfold changes in refl)
+
+  capacity-is : capacity t₁ ≡ capacity t
+  capacity-is = ap capacity applied-oldest ∙ framed-fitting t (changes (oldest q)) .sameCapacity
+
+  pub rest-lent : Lent t₁ rest s
+  rest-lent =
+      let o = h .shape .queue in
+      record {
+        shape = record {
+          table = rw applied-oldest (shape-fitting t (changes (oldest q)) (h .shape .table));
+          queue = rw g (record { place = unfold taken putSlot in omega arith; count = unfold taken putSlot in omega arith });
+        };
+        scratch = rw capacity-is (h .scratch);
+      }
+
+  kind-is : k ≡ oldest q .kind
+  kind-is = ap (λ (p : Packet). p .kind) e
+
+  abbrev stays : Bool
+  stays = stayRoots t₁ (waiting rest) (packet k a b d)
+
+  stays-is : (o x : Bool) → o ≡ stays → o ≡ x → stayRoots (applyFitting t (changes (oldest q))) (waiting (taken q)) (oldest q) ≡ x
+  stays-is o x u y = rw (applied-oldest, g, e) at (sym u ∙ y)
+
+  pub short : (o : Bool) → o ≡ stays → o ≡ true → (c : ℕ) → c ≡ capacity t → (s′ : List ℕ) → s′ ≡ cleared (scratchWords c) s → (r : Stepped) → r .answer ≡ StepAnswer.Applied k 0 → r .queue ≡ rest
+      → Applies t q s r t₁ s′
+  short o u x c i s′ y r z w = record {
+    table = applied-oldest ∙ (unfold collected in rw (stays-is o true u x));
+    answer = z ∙ (unfold freedNumber in rw (stays-is o true u x, kind-is));
+    queue = w ∙ g;
+    scratch = y ∙ ap (λ (n : ℕ). cleared (scratchWords n) s) i;
+  }
+
+  pub long : (o : Bool) → o ≡ stays → o ≡ false → (t′ s′ : List ℕ) (n : ℕ) → Collects t₁ (waiting rest) s t′ s′ n → (r : Stepped) → r .answer ≡ StepAnswer.Applied k n → r .queue ≡ rest
+      → Applies t q s r t′ s′
+  long o u x t′ s′ n y r z w = record {
+    table = y .table ∙ rw (applied-oldest, g) (unfold collected in rw (stays-is o false u x));
+    answer = z ∙ rw (y .number, applied-oldest, g, kind-is) (unfold freedNumber in rw (stays-is o false u x));
+    queue = w ∙ g;
+    scratch = y .scratch ∙ ap (λ (m : ℕ). cleared (scratchWords m) s) capacity-is;
+  }
