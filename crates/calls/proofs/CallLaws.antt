@@ -1,12 +1,15 @@
 -- The questions of a whole row call: the early chain, then the late one.
 use mathlib.Core.Path.{_≡_, refl, sym, ap, ap₂, _∙_}
 use mathlib.Core.Logic.{⊎-elim, inl, inr}
-use mathlib.Core.Bool.{Bool, true, false, _&&_, _||_}
+use mathlib.Core.Bool.{Bool, true, false, cond, _&&_}
 use mathlib.Core.List.{List, [], _∷_, _++_}
 use Prim.Native.Nat.{ℕ, zero, suc, pred, _-_, _≤_, _<_}
 use native.Mathlib.Omega.{arith}
-use native.Mathlib.Nat.{not-suc-le-zero}
+use lib.Dec.{eqb}
 use Rattle.machine.specs.declared.Queue.{Queue}
+use Rattle.machine.specs.declared.Asked
+use Rattle.machine.specs.declared.Asked.{Asked}
+use Rattle.machine.specs.declared.Refusal.{Refusal}
 use Rattle.machine.specs.Range.{everyOf}
 use Rattle.machine.specs.Words.{isNil, isCell, isLegal}
 use Rattle.machine.specs.Table.{left, right, capacity, firstFree, wordAt}
@@ -14,11 +17,13 @@ use Rattle.machine.specs.Queue.{Packet, packet}
 use Rattle.machine.specs.Packets.{kindOf}
 use Rattle.machine.specs.Calls.{RowCall, car, cdr, cons, setLeft, setRight, up, down, row, store, field, packetOf}
 use Rattle.machine.specs.Questions.{Question, firstNo, refusedBy, inRange, numberInRange, wordsLegal, xIsCell, earlyRow, early}
-use Rattle.machine.proofs.Range.{tested}
-use Rattle.machine.proofs.Questions.{Numbered, firstNo-append, firstNo-none, early-numbered, Shape}
-use Rattle.calls.specs.Early.{wordsNumber, firstOf, cellNumber, Within, Replaces}
+use Rattle.machine.specs.Answers.{askedNumber}
+use Rattle.machine.proofs.Lists.{and-true}
+use Rattle.machine.proofs.Questions.{Numbered, firstNo-append, firstNo-none, early-numbered}
+use Rattle.calls.specs.Early.{wordsNumber, firstOf, cellNumber, Replaces}
 use Rattle.calls.specs.Tests.{freeByEnd, codeLate, codeQuestions}
 use Rattle.calls.specs.Called.{readCall, replaceCall, ReplaceKind}
+use Rattle.calls.proofs.EarlyLaws.{early-first, late-first}
 
 -- the first "no" of two lists, by numbers
 first-append : (ks ls : List Question) → Numbered ks → firstNo (ks ++ ls) ≡ firstOf (firstNo ks) (firstNo ls)
@@ -44,13 +49,22 @@ number-cell true true false c = refl
 number-cell true false b c = refl
 number-cell false n b c = refl
 
--- a replace's field is left or right
-pub replace-field : (k kind : ℕ) → ReplaceKind k kind → k ≤ right
-replace-field k kind = ⊎-elim (λ (h : (k ≡ left) × (kind ≡ 3)). omega (arith, h .0)) (λ (h : (k ≡ right) × (kind ≡ 6)). omega (arith, h .0))
+-- a replace's field has a kind
+abbrev pub fieldKind : ℕ → ℕ
+fieldKind k = cond (eqb k left) 3 6
 
-and-true : (b : Bool) → b && true ≡ b
-and-true true = refl
-and-true false = refl
+pub field-kind : (k : ℕ) → k ≤ right → ReplaceKind k (fieldKind k)
+field-kind zero l = inl (refl, refl)
+field-kind (suc zero) l = inr (refl, refl)
+field-kind (suc (suc k)) l = absurd (omega arith)
+
+-- the field as the code reads it
+pub read-back : (t : List ℕ) (x k w : ℕ) → w ≡ wordAt t (x - 1) k → w ≡ field t x k
+unfolding field
+read-back t x k w e = e ∙ ap (λ (i : ℕ). wordAt t i k) (omega arith)
+
+pub replace-kinds : (k kind : ℕ) → ReplaceKind k kind → Replaces kind
+replace-kinds k kind = ⊎-elim (λ h. inl (h .1)) (λ h. inr (h .1))
 
 module _ (t : List ℕ) (q : Queue) where
   early-read : (k x : ℕ) → k ≤ right → firstNo (early (store t q []) (row (readCall k x))) ≡ cellNumber t q 1 x 0
@@ -99,11 +113,11 @@ module _ (t : List ℕ) (q : Queue) where
   unfolding packetOf
   cons-questions x y = questions-split t q (cons x y) ∙ ap (λ (a : ℕ). firstOf a (firstNo (codeLate t q (packet 2 x y (firstFree t))))) (early-cons x y)
 
-  pub replace-questions : (k kind x y d : ℕ) → ReplaceKind k kind → d ≡ field t x k
+  pub replace-questions : (k kind x y d : ℕ) → k ≤ right → ReplaceKind k kind → d ≡ field t x k
       → firstNo (codeQuestions t q (replaceCall k x y)) ≡ firstOf (cellNumber t q 1 x y) (firstNo (codeLate t q (packet kind y d x)))
-  replace-questions k kind x y d h e =
+  replace-questions k kind x y d l h e =
       questions-split t q (replaceCall k x y)
-      ∙ ap₂ (λ (a : ℕ) (p : Packet). firstOf a (firstNo (codeLate t q p))) (early-replace k x y (replace-field k kind h)) (replace-packet k kind x y h ∙ ap (λ (w : ℕ). packet kind y w x) (sym e))
+      ∙ ap₂ (λ (a : ℕ) (p : Packet). firstOf a (firstNo (codeLate t q p))) (early-replace k x y l) (replace-packet k kind x y h ∙ ap (λ (w : ℕ). packet kind y w x) (sym e))
 
   pub up-questions : (x n : ℕ) → firstNo (codeQuestions t q (up x n)) ≡ firstOf (cellNumber t q n x 0) (firstNo (codeLate t q (packet 4 x n 0)))
   unfolding packetOf
@@ -113,10 +127,62 @@ module _ (t : List ℕ) (q : Queue) where
   unfolding packetOf
   down-questions x n = questions-split t q (down x n) ∙ ap (λ (a : ℕ). firstOf a (firstNo (codeLate t q (packet 5 x n 0)))) (early-down x n)
 
--- the field as the code reads it
-pub read-back : (t : List ℕ) (x k w : ℕ) → w ≡ wordAt t (x - 1) k → w ≡ field t x k
-unfolding field
-read-back t x k w e = e ∙ ap (λ (i : ℕ). wordAt t i k) (omega arith)
+  -- each call's answer: an early "no", or what the late questions say
+  pub read-early : (k x : ℕ) (e : Asked) (f : Refusal) → k ≤ right → askedNumber e ≡ cellNumber t q 1 x 0 → e ≡ Asked.No f
+      → askedNumber e ≡ firstNo (codeQuestions t q (readCall k x))
+  read-early k x e f l h d =
+      early-first (firstNo (codeQuestions t q (readCall k x))) (cellNumber t q 1 x 0) (firstNo (codeLate t q (packet 1 x (field t x k) 0))) e f
+      (read-questions k x (field t x k) l refl) h d
 
-pub replace-kinds : (k kind : ℕ) → ReplaceKind k kind → Replaces kind
-replace-kinds k kind = ⊎-elim (λ h. inl (h .1)) (λ h. inr (h .1))
+  pub read-whole : (k x w : ℕ) (e r : Asked) → k ≤ right → w ≡ wordAt t (x - 1) k → askedNumber e ≡ cellNumber t q 1 x 0 → e ≡ Asked.Yes
+      → askedNumber r ≡ firstNo (codeLate t q (packet 1 x w 0)) → askedNumber r ≡ firstNo (codeQuestions t q (readCall k x))
+  read-whole k x w e r l b h d a =
+      late-first (firstNo (codeQuestions t q (readCall k x))) (cellNumber t q 1 x 0) (firstNo (codeLate t q (packet 1 x w 0))) e r
+      (read-questions k x w l (read-back t x k w b)) h d a
+
+  pub cons-early : (x y : ℕ) (e : Asked) (f : Refusal) → askedNumber e ≡ wordsNumber t q 1 x y → e ≡ Asked.No f
+      → askedNumber e ≡ firstNo (codeQuestions t q (cons x y))
+  cons-early x y e f h d =
+      early-first (firstNo (codeQuestions t q (cons x y))) (wordsNumber t q 1 x y) (firstNo (codeLate t q (packet 2 x y (firstFree t)))) e f
+      (cons-questions x y) h d
+
+  pub cons-whole : (x y : ℕ) (e r : Asked) → askedNumber e ≡ wordsNumber t q 1 x y → e ≡ Asked.Yes
+      → askedNumber r ≡ firstNo (codeLate t q (packet 2 x y (firstFree t))) → askedNumber r ≡ firstNo (codeQuestions t q (cons x y))
+  cons-whole x y e r h d a =
+      late-first (firstNo (codeQuestions t q (cons x y))) (wordsNumber t q 1 x y) (firstNo (codeLate t q (packet 2 x y (firstFree t)))) e r
+      (cons-questions x y) h d a
+
+  pub replace-early : (k x y : ℕ) (e : Asked) (f : Refusal) → k ≤ right → askedNumber e ≡ cellNumber t q 1 x y → e ≡ Asked.No f
+      → askedNumber e ≡ firstNo (codeQuestions t q (replaceCall k x y))
+  replace-early k x y e f l h d =
+      early-first (firstNo (codeQuestions t q (replaceCall k x y))) (cellNumber t q 1 x y) (firstNo (codeLate t q (packet (fieldKind k) y (field t x k) x))) e f
+      (replace-questions k (fieldKind k) x y (field t x k) l (field-kind k l) refl) h d
+
+  pub replace-whole : (k x y d : ℕ) (e r : Asked) → k ≤ right → d ≡ wordAt t (x - 1) k → askedNumber e ≡ cellNumber t q 1 x y → e ≡ Asked.Yes
+      → ((kind : ℕ) → Replaces kind → askedNumber r ≡ firstNo (codeLate t q (packet kind y d x)))
+      → askedNumber r ≡ firstNo (codeQuestions t q (replaceCall k x y))
+  replace-whole k x y d e r l b h s a =
+      let kind = fieldKind k in
+      let of-field = field-kind k l in
+      late-first (firstNo (codeQuestions t q (replaceCall k x y))) (cellNumber t q 1 x y) (firstNo (codeLate t q (packet kind y d x))) e r
+      (replace-questions k kind x y d l of-field (read-back t x k d b)) h s (a kind (replace-kinds k kind of-field))
+
+  pub up-early : (x n : ℕ) (e : Asked) (f : Refusal) → askedNumber e ≡ cellNumber t q n x 0 → e ≡ Asked.No f
+      → askedNumber e ≡ firstNo (codeQuestions t q (up x n))
+  up-early x n e f h d =
+      early-first (firstNo (codeQuestions t q (up x n))) (cellNumber t q n x 0) (firstNo (codeLate t q (packet 4 x n 0))) e f (up-questions x n) h d
+
+  pub up-whole : (x n : ℕ) (e r : Asked) → askedNumber e ≡ cellNumber t q n x 0 → e ≡ Asked.Yes → askedNumber r ≡ firstNo (codeLate t q (packet 4 x n 0))
+      → askedNumber r ≡ firstNo (codeQuestions t q (up x n))
+  up-whole x n e r h d a =
+      late-first (firstNo (codeQuestions t q (up x n))) (cellNumber t q n x 0) (firstNo (codeLate t q (packet 4 x n 0))) e r (up-questions x n) h d a
+
+  pub down-early : (x n : ℕ) (e : Asked) (f : Refusal) → askedNumber e ≡ cellNumber t q n x 0 → e ≡ Asked.No f
+      → askedNumber e ≡ firstNo (codeQuestions t q (down x n))
+  down-early x n e f h d =
+      early-first (firstNo (codeQuestions t q (down x n))) (cellNumber t q n x 0) (firstNo (codeLate t q (packet 5 x n 0))) e f (down-questions x n) h d
+
+  pub down-whole : (x n : ℕ) (e r : Asked) → askedNumber e ≡ cellNumber t q n x 0 → e ≡ Asked.Yes → askedNumber r ≡ firstNo (codeLate t q (packet 5 x n 0))
+      → askedNumber r ≡ firstNo (codeQuestions t q (down x n))
+  down-whole x n e r h d a =
+      late-first (firstNo (codeQuestions t q (down x n))) (cellNumber t q n x 0) (firstNo (codeLate t q (packet 5 x n 0))) e r (down-questions x n) h d a

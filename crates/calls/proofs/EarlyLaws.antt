@@ -1,33 +1,29 @@
 -- Questions 1 to 5 as chains of numbers: which number each "no" gives, what follows where there is none, and that the chains are the machine's lists.
 use mathlib.Core.Path.{_≡_, refl, sym, ap, _∙_}
 use mathlib.Core.Logic.{⊎-elim}
-use mathlib.Core.Bool.{Bool, true, false, _&&_, _||_}
+use mathlib.Core.Bool.{Bool, true, false, not, _&&_}
 use mathlib.Core.List.{List, [], _∷_, _++_}
-use Prim.Native.Nat.{ℕ, zero, suc, _≤_, _<_}
+use Prim.Native.Nat.{ℕ, zero, suc, _-_, _≤_}
 use native.Mathlib.Omega.{arith}
 use lib.Dec.{leb}
-use borrow.Author.Tests.{le-leb, lt-leb, leb-true}
+use lib.ListN.{length}
+use borrow.Author.Tests.{leb-true, not-true, not-false}
 use Rattle.machine.specs.declared.Queue.{Queue}
 use Rattle.machine.specs.Range.{everyOf}
 use Rattle.machine.specs.Words.{isNil, isCell, isLegal, ceiling}
-use Rattle.machine.specs.Table.{capacity}
+use Rattle.machine.specs.Table.{capacity, tableLength}
 use Rattle.machine.specs.Calls.{RowCall, car, cdr, cons, setLeft, setRight, up, down, row, store}
 use Rattle.machine.specs.Questions.{Question, firstNo, refusedBy, inRange, numberInRange, wordsLegal, xIsCell, earlyRow, early}
 use Rattle.machine.proofs.Range.{tested, and-first, and-second}
-use Rattle.machine.proofs.Questions.{Numbered, firstNo-append, firstNo-none, Shape, shape-is}
-use Rattle.calls.specs.Early.{wordsNumber, firstOf, cellNumber, Within}
-
-pub number-low : (n : ℕ) → n < 1 → numberInRange n ≡ false
-unfolding numberInRange
-number-low n l = rw (lt-leb 1 n l)
-
-pub number-high : (n : ℕ) → ceiling < n → numberInRange n ≡ false
-unfolding numberInRange
-number-high n l = rw (le-leb 1 n (omega arith), lt-leb n ceiling l)
-
-pub number-within : (n : ℕ) → 1 ≤ n → n ≤ ceiling → numberInRange n ≡ true
-unfolding numberInRange
-number-within n a b = rw (le-leb 1 n a, le-leb n ceiling b)
+use Rattle.machine.specs.Facts.{Shape}
+use Rattle.machine.specs.declared.Asked
+use Rattle.machine.specs.declared.Asked.{Asked}
+use Rattle.machine.specs.declared.Refusal.{Refusal}
+use Rattle.machine.specs.declared.Refusal.the-variants.{StoreOutOfRange, ScratchTooShort, NumberOutOfRange, IllegalWord, NotACell, NotHeld, QueueFull, NoFreeCell, HeldCountTooHigh, TooManyPointers}
+use Rattle.machine.specs.Answers.{refusalNumber, askedNumber}
+use Rattle.machine.proofs.Questions.{shape-is}
+use Rattle.machine.proofs.Words.{cell-place, cell-number}
+use Rattle.calls.specs.Early.{wordsNumber, firstOf, cellNumber}
 
 pub number-some : (n : ℕ) → numberInRange n ≡ true → 1 ≤ n
 unfolding numberInRange
@@ -36,6 +32,13 @@ number-some n h = leb-true 1 n (and-first (leb 1 n) (leb n ceiling) h)
 first-some : (a b : ℕ) → (a ≡ 0 → ⊥) → firstOf a b ≡ a
 first-some zero b h = absurd (h refl)
 first-some (suc a) b h = refl
+
+-- what a test `!r` says, by its outcome, of the question b that r answers
+pub yes : {r b : Bool} → r ≡ b → not r ≡ false → b ≡ true
+yes {r} e h = sym e ∙ not-false r h
+
+pub no : {r b : Bool} → r ≡ b → not r ≡ true → b ≡ false
+no {r} e h = sym e ∙ not-true r h
 
 -- a test of a word against the C that was read
 pub legal : (t : List ℕ) (c w : ℕ) {r b : Bool} → c ≡ capacity t → r ≡ isLegal c w → r ≡ b → isLegal (capacity t) w ≡ b
@@ -75,10 +78,6 @@ module _ (t : List ℕ) (q : Queue) (n x y : ℕ) where
       three : numberInRange n ≡ false → ⊥
       three e = ⊎-elim (λ a. omega (arith, words-3 a e)) (λ a. omega (arith, words-1 a)) (tested (inRange t q))
 
-  pub cell-early : (wordsNumber t q n x y ≡ 0 → ⊥) → cellNumber t q n x y ≡ wordsNumber t q n x y
-  unfolding cellNumber
-  cell-early h = first-some (wordsNumber t q n x y) (refusedBy (isCell (capacity t) x) 5 0) h
-
   pub cell-yes : wordsNumber t q n x y ≡ 0 → isCell (capacity t) x ≡ true → cellNumber t q n x y ≡ 0
   unfolding cellNumber
   cell-yes h e = rw (h, e)
@@ -86,10 +85,6 @@ module _ (t : List ℕ) (q : Queue) (n x y : ℕ) where
   pub cell-5 : wordsNumber t q n x y ≡ 0 → isCell (capacity t) x ≡ false → cellNumber t q n x y ≡ 5
   unfolding cellNumber
   cell-5 h e = rw (h, e)
-
--- facts of question 1 for the later questions
-pub within : (t : List ℕ) (q : Queue) → Shape t q → Within t q
-within t q s = record { room = s .room; place = s .place; count = s .count }
 
 pub first-both : (a b : ℕ) → firstOf a b ≡ 0 → (a ≡ 0) × (b ≡ 0)
 first-both zero b h = (refl, h)
@@ -108,9 +103,63 @@ pub cell-is : (t : List ℕ) (q : Queue) (n x y : ℕ) → cellNumber t q n x y 
 unfolding cellNumber
 cell-is t q n x y h = refused-five (isCell (capacity t) x) (first-both (wordsNumber t q n x y) (refusedBy (isCell (capacity t) x) 5 0) h .1)
 
--- a number found early is the call's, and else the late one is
-pub early-first : (total a b n : ℕ) → total ≡ firstOf a b → n ≡ a → (n ≡ 0 → ⊥) → n ≡ total
-early-first total a b n e h k = h ∙ sym (first-some a b (λ z. k (h ∙ z))) ∙ sym e
+-- every refusal has a number
+pub refusal-some : (f : Refusal) → refusalNumber f ≡ 0 → ⊥
+refusal-some StoreOutOfRange h = omega arith
+refusal-some ScratchTooShort h = omega arith
+refusal-some NumberOutOfRange h = omega arith
+refusal-some IllegalWord h = omega arith
+refusal-some NotACell h = omega arith
+refusal-some NotHeld h = omega arith
+refusal-some QueueFull h = omega arith
+refusal-some NoFreeCell h = omega arith
+refusal-some HeldCountTooHigh h = omega arith
+refusal-some TooManyPointers h = omega arith
 
-pub late-first : (total a b n m : ℕ) → total ≡ firstOf a b → n ≡ a → n ≡ 0 → m ≡ b → m ≡ total
-late-first total a b n m e h z k = k ∙ sym (ap (λ (i : ℕ). firstOf i b) (sym h ∙ z)) ∙ sym e
+-- what an answer says, by its case
+pub asked-no : {r : Asked} {f : Refusal} {n : ℕ} → askedNumber r ≡ n → r ≡ Asked.No f → refusalNumber f ≡ n
+asked-no h e = sym (ap askedNumber e) ∙ h
+
+pub asked-yes : {r : Asked} {n : ℕ} → askedNumber r ≡ n → r ≡ Asked.Yes → 0 ≡ n
+asked-yes h e = sym (ap askedNumber e) ∙ h
+
+-- an early "no" is the call's, and else the late answer is
+pub early-first : (total a b : ℕ) (r : Asked) (f : Refusal) → total ≡ firstOf a b → askedNumber r ≡ a → r ≡ Asked.No f → askedNumber r ≡ total
+early-first total a b r f e h d = h ∙ sym (first-some a b (λ z. refusal-some f (asked-no h d ∙ z))) ∙ sym e
+
+pub late-first : (total a b : ℕ) (r m : Asked) → total ≡ firstOf a b → askedNumber r ≡ a → r ≡ Asked.Yes → askedNumber m ≡ b → askedNumber m ≡ total
+late-first total a b r m e h d k = k ∙ ap (λ (i : ℕ). firstOf i b) (asked-yes h d) ∙ sym e
+
+pub words-first : (t : List ℕ) (q : Queue) (n x y : ℕ) (r : Asked) (f : Refusal) → askedNumber r ≡ wordsNumber t q n x y → r ≡ Asked.No f
+    → askedNumber r ≡ cellNumber t q n x y
+unfolding cellNumber
+words-first t q n x y r f h d = early-first (cellNumber t q n x y) (wordsNumber t q n x y) (refusedBy (isCell (capacity t) x) 5 0) r f refl h d
+
+-- what questions 1 to 5 leave to the later ones where they say "yes"
+pub record Callable (t : List ℕ) (q : Queue) (n x : ℕ) : Type 0 where
+  pub shape : Shape t q
+  pub cell : isCell (capacity t) x ≡ true
+  pub inside : tableLength (suc (x - 1)) ≤ length t
+  pub first : 1 ≤ x
+  pub some : 1 ≤ n
+
+pub callable : (t : List ℕ) (q : Queue) (n x y : ℕ) → cellNumber t q n x y ≡ 0 → Callable t q n x
+callable t q n x y e =
+    let c = cell-is t q n x y e in
+    let w = cell-words t q n x y e in
+    let shape = words-shape t q n x y w in
+    let table = shape .table in
+    record {
+      shape = shape;
+      cell = c;
+      inside = omega (arith, cell-place (capacity t) x c);
+      first = omega (arith, cell-number (capacity t) x c);
+      some = words-some t q n x y w;
+    }
+
+module _ (t : List ℕ) (q : Queue) (n x y : ℕ) (r : Asked) (yes : r ≡ Asked.Yes) where
+  pub cell-ready : askedNumber r ≡ cellNumber t q n x y → Callable t q n x
+  cell-ready h = callable t q n x y (sym (asked-yes h yes))
+
+  pub words-ready : askedNumber r ≡ wordsNumber t q n x y → Shape t q
+  words-ready h = words-shape t q n x y (sym (asked-yes h yes))

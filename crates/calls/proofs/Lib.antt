@@ -1,5 +1,4 @@
-pub mod Rules
-pub mod WordLaws
+pub mod TallyLaws
 pub mod LateLaws
 pub mod EarlyLaws
 pub mod CallLaws

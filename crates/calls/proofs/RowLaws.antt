@@ -6,71 +6,27 @@ use mathlib.Core.List.{List, [], _∷_, _++_}
 use Prim.Native.Nat.{ℕ, zero, suc, pred, _-_, _≤_, _<_}
 use native.Mathlib.Omega.{arith}
 use lib.Dec.{ltb, eqb}
+use lib.ListN.{length}
 use borrow.Author.Tests.{ltb-true, eqb-false, not-true}
 use Rattle.machine.specs.declared.Queue.{Queue}
 use Rattle.machine.specs.declared.RowAnswer
 use Rattle.machine.specs.declared.RowAnswer.{RowAnswer}
+use Rattle.machine.specs.declared.Asked
+use Rattle.machine.specs.declared.Asked.{Asked}
 use Rattle.machine.specs.declared.Refusal.{Refusal}
-use Rattle.machine.specs.Table.{left, right, capacity, firstFree, lastFree, wordAt, putWord, putEnds, putCell}
+use Rattle.machine.specs.Table.{left, right, newCell, capacity, firstFree, lastFree, tableLength, wordAt, putWord, putEnds, putCell}
 use Rattle.machine.specs.Queue.{Packet, packet, slots, appended, waiting}
 use Rattle.machine.specs.Packets.{root, cell, kindOf, reads, makes, replaces, raises, lowers, unknown, Kind}
 use Rattle.machine.specs.Calls.{RowCall, car, cdr, cons, setLeft, setRight, up, down, row, Reply, value, refused, Store, store, field, packetOf, withoutFirst, written, valueOf}
 use Rattle.machine.specs.Step.{Outcome, outcome}
 use Rattle.machine.specs.Questions.{Question, ask, firstNo, refusedBy, heldEnough, slotEmpty, earlyRow, early}
 use Rattle.machine.specs.Machine.{accepted, answered}
-use Rattle.machine.specs.Answers.{refusalNumber, rowReply}
-use Rattle.machine.proofs.Range.{tested}
-use Rattle.machine.proofs.Questions.{Numbered, AllYes, firstNo-append, firstNo-none, firstNo-all, early-numbered, Shape, shape-is}
+use Rattle.machine.specs.Answers.{refusalNumber, askedNumber, rowReply}
 use Rattle.calls.specs.Tests.{raisedWithin, freeByEnd, codeLate, codeQuestions}
-use Rattle.machine.proofs.Words.{cell-place, cell-number}
 use Rattle.calls.specs.Early.{wordsNumber, firstOf, cellNumber}
 use Rattle.calls.specs.Called.{readCall, replaceCall, ReplaceKind, outcomeOf, RowCalled}
-use Rattle.calls.proofs.EarlyLaws.{words-shape, first-both, cell-words, cell-is}
-use Rattle.calls.proofs.CallLaws.{read-questions, cons-questions, replace-questions, up-questions, down-questions}
-
--- every number asked is at most 10
-abbrev Ten : List Question → Type 0
-Ten [] = Unit {0}
-Ten (k ∷ ks) = (k .number ≤ 10) × Ten ks
-
-ten-append : (ks ls : List Question) → Ten ks → Ten ls → Ten (ks ++ ls)
-ten-append [] ls h m = m
-ten-append (k ∷ ks) ls h m = (h .0, ten-append ks ls (h .1) m)
-
-first-ten : (ks : List Question) → Ten ks → firstNo ks ≤ 10
-unfolding firstNo
-first-ten [] h = omega arith
-first-ten (k ∷ ks) h = chosen (k .answer) (k .number) (firstNo ks) (h .0) (first-ten ks (h .1))
-  where
-    chosen : (b : Bool) (n m : ℕ) → n ≤ 10 → m ≤ 10 → refusedBy b n m ≤ 10
-    chosen true n m a c = c
-    chosen false n m a c = a
-
-ten-early : (t : List ℕ) (q : Queue) (r : RowCall) → Ten (early (store t q []) (row r))
-unfolding early earlyRow
-ten-early t q (car x) = omega arith
-ten-early t q (cdr x) = omega arith
-ten-early t q (cons x y) = omega arith
-ten-early t q (setLeft x y) = omega arith
-ten-early t q (setRight x y) = omega arith
-ten-early t q (up x n) = omega arith
-ten-early t q (down x n) = omega arith
-
-ten-free : (k : Kind) (t : List ℕ) → Ten (freeByEnd k t)
-unfolding freeByEnd
-ten-free reads t = tt
-ten-free makes t = omega arith
-ten-free (replaces f) t = tt
-ten-free raises t = tt
-ten-free lowers t = tt
-ten-free unknown t = tt
-
-pub number-bound : (t : List ℕ) (q : Queue) (r : RowCall) → firstNo (codeQuestions t q r) ≤ 10
-unfolding codeQuestions codeLate
-number-bound t q r =
-    first-ten (codeQuestions t q r)
-    (ten-append (early (store t q []) (row r)) (codeLate t q (packetOf t r)) (ten-early t q r)
-    (omega arith, (omega arith, ten-append (freeByEnd (kindOf (packetOf t r .kind)) t) _ (ten-free (kindOf (packetOf t r .kind)) t) (omega arith, (omega arith, tt)))))
+use Rattle.calls.proofs.EarlyLaws.{words-shape, first-both, callable, refusal-some, asked-no, asked-yes}
+use Rattle.calls.proofs.CallLaws.{fieldKind, field-kind, read-packet, replace-packet, read-back, read-questions, cons-questions, replace-questions, up-questions, down-questions}
 
 module _ (t : List ℕ) (q : Queue) (r : RowCall) where
   pub outcome-refused : (n : ℕ) → firstNo (codeQuestions t q r) ≡ suc n → outcomeOf t q r ≡ outcome (refused (suc n)) (store t q [])
@@ -82,25 +38,30 @@ module _ (t : List ℕ) (q : Queue) (r : RowCall) where
   outcome-done e = rw e
 
   -- the first "no" refuses, and nothing changes
-  pub row-refused : (n : ℕ) (a : RowAnswer) (q′ : Queue) → n ≡ firstNo (codeQuestions t q r) → (n ≡ 0 → ⊥) → rowReply a ≡ refused n → q′ ≡ q → RowCalled t q r a t q′
-  row-refused n a q′ e z h k = go n refl
+  pub row-refused : (asked : Asked) (f : Refusal) (a : RowAnswer) (q′ : Queue) → askedNumber asked ≡ firstNo (codeQuestions t q r) → asked ≡ Asked.No f
+      → a ≡ RowAnswer.Refused f → q′ ≡ q → RowCalled t q r a t q′
+  row-refused asked f a q′ s is h k = go (firstNo (codeQuestions t q r)) refl
     where
-      go : (m : ℕ) → n ≡ m → RowCalled t q r a t q′
-      go zero d = absurd (z d)
+      e : refusalNumber f ≡ firstNo (codeQuestions t q r)
+      e = asked-no s is
+
+      go : (m : ℕ) → firstNo (codeQuestions t q r) ≡ m → RowCalled t q r a t q′
+      go zero d = absurd (refusal-some f (e ∙ d))
       go (suc m) d =
-          let o = outcome-refused m (sym e ∙ d) in
+          let o = outcome-refused m d in
           record {
-            reply = h ∙ ap refused d ∙ sym (ap (λ (x : Outcome). x .reply) o);
+            reply = ap rowReply h ∙ ap refused (e ∙ d) ∙ sym (ap (λ (x : Outcome). x .reply) o);
             table = sym (ap (λ (x : Outcome). x .after .table) o);
             queue = k ∙ sym (ap (λ (x : Outcome). x .after .queue) o);
           }
 
   -- and where there is none the call is done
-  pub row-done : (v : ℕ) (t′ : List ℕ) (q′ : Queue) → firstNo (codeQuestions t q r) ≡ 0 → v ≡ valueOf t r → t′ ≡ written t r → q′ ≡ appended q (packetOf t r) → RowCalled t q r (RowAnswer.Done v) t′ q′
-  row-done v t′ q′ e a b c =
-      let o = outcome-done e in
+  row-done : (v : ℕ) (a : RowAnswer) (t′ : List ℕ) (q′ : Queue) → 0 ≡ firstNo (codeQuestions t q r) → a ≡ RowAnswer.Done v → v ≡ valueOf t r
+      → t′ ≡ written t r → q′ ≡ appended q (packetOf t r) → RowCalled t q r a t′ q′
+  row-done v a t′ q′ e h d b c =
+      let o = outcome-done (sym e) in
       record {
-        reply = ap value a ∙ sym (ap (λ (x : Outcome). x .reply) o);
+        reply = ap rowReply h ∙ ap value d ∙ sym (ap (λ (x : Outcome). x .reply) o);
         table = b ∙ sym (ap (λ (x : Outcome). x .after .table) o);
         queue = c ∙ sym (ap (λ (x : Outcome). x .after .queue) o);
       }
@@ -135,81 +96,122 @@ late-free t q x y z h =
 
 -- what an accepted call with the cell x leans on
 pub record Ready (t : List ℕ) (q : Queue) (x : ℕ) : Type 0 where
-  pub shape : Shape t q
-  pub place : x - 1 < capacity t
-  pub number : 1 ≤ x
+  pub inside : tableLength (suc (x - 1)) ≤ length t
+  pub some : 1 ≤ x
+  pub place : q .place < slots
   pub slot : q .count < slots
 
-ready : (t : List ℕ) (q : Queue) (n x y : ℕ) (p : Packet) (total : ℕ) → total ≡ firstOf (cellNumber t q n x y) (firstNo (codeLate t q p)) → total ≡ 0 → Ready t q x
+ready : (t : List ℕ) (q : Queue) (n x y : ℕ) (p : Packet) (total : ℕ) → total ≡ firstOf (cellNumber t q n x y) (firstNo (codeLate t q p)) → 0 ≡ total
+    → Ready t q x
 ready t q n x y p total e z =
-    let both = first-both (cellNumber t q n x y) (firstNo (codeLate t q p)) (sym e ∙ z) in
-    let c = cell-is t q n x y (both .0) in
+    let both = first-both (cellNumber t q n x y) (firstNo (codeLate t q p)) (sym (z ∙ e)) in
+    let c = callable t q n x y (both .0) in
     record {
-      shape = words-shape t q n x y (cell-words t q n x y (both .0));
-      place = omega (arith, cell-place (capacity t) x c);
-      number = omega (arith, cell-number (capacity t) x c);
+      inside = c .inside;
+      some = c .first;
+      place = c .shape .queue .place;
       slot = late-slot t q p (both .1);
     }
 
-module _ (t : List ℕ) (q : Queue) where
-  pub read-ready : (k x : ℕ) → k ≤ right → firstNo (codeQuestions t q (readCall k x)) ≡ 0 → Ready t q x
-  read-ready k x l z = ready t q 1 x 0 (packet 1 x (field t x k) 0) _ (read-questions t q k x (field t x k) l refl) z
+module _ (t : List ℕ) (q : Queue) (asked : Asked) (yes : asked ≡ Asked.Yes) where
+  pub read-ready : (k x : ℕ) → k ≤ right → askedNumber asked ≡ firstNo (codeQuestions t q (readCall k x)) → Ready t q x
+  read-ready k x l z =
+      ready t q 1 x 0 (packet 1 x (field t x k) 0) (firstNo (codeQuestions t q (readCall k x))) (read-questions t q k x (field t x k) l refl) (asked-yes z yes)
 
-  pub replace-ready : (k kind x y : ℕ) → ReplaceKind k kind → firstNo (codeQuestions t q (replaceCall k x y)) ≡ 0 → Ready t q x
-  replace-ready k kind x y h z = ready t q 1 x y (packet kind y (field t x k) x) _ (replace-questions t q k kind x y (field t x k) h refl) z
+  pub replace-ready : (k x y : ℕ) → k ≤ right → askedNumber asked ≡ firstNo (codeQuestions t q (replaceCall k x y)) → Ready t q x
+  replace-ready k x y l z =
+      ready t q 1 x y (packet (fieldKind k) y (field t x k) x) (firstNo (codeQuestions t q (replaceCall k x y)))
+      (replace-questions t q k (fieldKind k) x y (field t x k) l (field-kind k l) refl) (asked-yes z yes)
 
-  pub up-ready : (x n : ℕ) → firstNo (codeQuestions t q (up x n)) ≡ 0 → Ready t q x
-  up-ready x n z = ready t q n x 0 (packet 4 x n 0) _ (up-questions t q x n) z
+  pub up-ready : (x n : ℕ) → askedNumber asked ≡ firstNo (codeQuestions t q (up x n)) → Ready t q x
+  up-ready x n z = ready t q n x 0 (packet 4 x n 0) (firstNo (codeQuestions t q (up x n))) (up-questions t q x n) (asked-yes z yes)
 
-  pub down-ready : (x n : ℕ) → firstNo (codeQuestions t q (down x n)) ≡ 0 → Ready t q x
-  down-ready x n z = ready t q n x 0 (packet 5 x n 0) _ (down-questions t q x n) z
+  pub down-ready : (x n : ℕ) → askedNumber asked ≡ firstNo (codeQuestions t q (down x n)) → Ready t q x
+  down-ready x n z = ready t q n x 0 (packet 5 x n 0) (firstNo (codeQuestions t q (down x n))) (down-questions t q x n) (asked-yes z yes)
 
   -- of a cons: the first free cell is one
-  pub cons-ready : (x y : ℕ) → firstNo (codeQuestions t q (cons x y)) ≡ 0 → Ready t q (firstFree t)
+  pub cons-ready : (x y : ℕ) → askedNumber asked ≡ firstNo (codeQuestions t q (cons x y)) → Ready t q (firstFree t)
   cons-ready x y z =
-      let both = first-both (wordsNumber t q 1 x y) (firstNo (codeLate t q (packet 2 x y (firstFree t)))) (sym (cons-questions t q x y) ∙ z) in
-      let s = words-shape t q 1 x y (both .0) in
+      let late = firstNo (codeLate t q (packet 2 x y (firstFree t))) in
+      let both = first-both (wordsNumber t q 1 x y) late (sym (asked-yes z yes ∙ cons-questions t q x y)) in
+      let shape = words-shape t q 1 x y (both .0) in
+      let table = shape .table in
       let d = late-free t q x y (firstFree t) (both .1) in
       record {
-        shape = s;
-        place = omega (arith, s .first);
-        number = omega arith;
+        inside = omega arith;
+        some = omega arith;
+        place = shape .queue .place;
         slot = late-slot t q (packet 2 x y (firstFree t)) (both .1);
       }
 
 -- the values and tables of reads and replaces
-pub read-value : (t : List ℕ) (k x : ℕ) → k ≤ right → valueOf t (readCall k x) ≡ field t x k
+read-value : (t : List ℕ) (k x : ℕ) → k ≤ right → valueOf t (readCall k x) ≡ field t x k
 unfolding valueOf
 read-value t zero x l = refl
 read-value t (suc zero) x l = refl
 read-value t (suc (suc k)) x l = absurd (omega arith)
 
-pub read-table : (t : List ℕ) (k x : ℕ) → k ≤ right → written t (readCall k x) ≡ t
+read-table : (t : List ℕ) (k x : ℕ) → k ≤ right → written t (readCall k x) ≡ t
 unfolding written
 read-table t zero x l = refl
 read-table t (suc zero) x l = refl
 read-table t (suc (suc k)) x l = absurd (omega arith)
 
-pub replace-value : (t : List ℕ) (k kind x y : ℕ) → ReplaceKind k kind → valueOf t (replaceCall k x y) ≡ field t x k
+replace-value : (t : List ℕ) (k x y : ℕ) → k ≤ right → valueOf t (replaceCall k x y) ≡ field t x k
 unfolding valueOf
-replace-value t k kind x y = ⊎-elim (λ (h : (k ≡ left) × (kind ≡ 3)). rw (h .0)) (λ (h : (k ≡ right) × (kind ≡ 6)). rw (h .0))
+replace-value t zero x y l = refl
+replace-value t (suc zero) x y l = refl
+replace-value t (suc (suc k)) x y l = absurd (omega arith)
 
-pub replace-table : (t : List ℕ) (k kind x y : ℕ) → ReplaceKind k kind → written t (replaceCall k x y) ≡ putWord t (pred x) k y
+replace-table : (t : List ℕ) (k x y : ℕ) → k ≤ right → written t (replaceCall k x y) ≡ putWord t (pred x) k y
 unfolding written
-replace-table t k kind x y = ⊎-elim (λ (h : (k ≡ left) × (kind ≡ 3)). rw (h .0)) (λ (h : (k ≡ right) × (kind ≡ 6)). rw (h .0))
-
--- a number found is a refusal's
-pub refusal-range : (t : List ℕ) (q : Queue) (r : RowCall) (n : ℕ) → n ≡ firstNo (codeQuestions t q r) → (n ≡ 0 → ⊥) → (1 ≤ n) × (n ≤ 10)
-refusal-range t q r n e z = (omega arith, rw e (number-bound t q r))
+replace-table t zero x y l = refl
+replace-table t (suc zero) x y l = refl
+replace-table t (suc (suc k)) x y l = absurd (omega arith)
 
 -- the writes of a cons, one by one
 pub taken-first : (t u v : List ℕ) (first next last x y : ℕ) → first ≡ firstFree t → next ≡ wordAt t (first - 1) left → last ≡ cond (eqb next 0) 0 (lastFree t)
-    → u ≡ putEnds t next last → v ≡ putCell u (first - 1) x y 1 0 1 → v ≡ written t (cons x y)
+    → u ≡ putEnds t next last → v ≡ putCell u (first - 1) (newCell x y) → v ≡ written t (cons x y)
 unfolding written withoutFirst field
 taken-first t u v first next last x y e a b c d =
     let p : first - 1 ≡ pred (firstFree t) = omega arith in
     let n : next ≡ wordAt t (pred (firstFree t)) left = a ∙ ap (λ (i : ℕ). wordAt t i left) p in
-    d ∙ ap₂ (λ (s : List ℕ) (i : ℕ). putCell s i x y 1 0 1) (c ∙ ap₂ (putEnds t) n (b ∙ ap (λ (w : ℕ). cond (eqb w 0) 0 (lastFree t)) n)) p
+    d ∙ ap₂ (λ (s : List ℕ) (i : ℕ). putCell s i (newCell x y)) (c ∙ ap₂ (putEnds t) n (b ∙ ap (λ (w : ℕ). cond (eqb w 0) 0 (lastFree t)) n)) p
+
+-- each call done: its value, its table and its packet
+module _ (t : List ℕ) (q : Queue) (asked : Asked) (yes : asked ≡ Asked.Yes) (a : RowAnswer) (q′ : Queue) where
+  pub read-done : (k x w : ℕ) → k ≤ right → askedNumber asked ≡ firstNo (codeQuestions t q (readCall k x)) → w ≡ wordAt t (x - 1) k → a ≡ RowAnswer.Done w
+      → q′ ≡ appended q (packet 1 x w 0) → RowCalled t q (readCall k x) a t q′
+  read-done k x w l z b h e =
+      let v = read-back t x k w b in
+      row-done t q (readCall k x) w a t q′ (asked-yes z yes) h (v ∙ sym (read-value t k x l)) (sym (read-table t k x l))
+      (e ∙ ap (appended q) (ap (λ (d : ℕ). packet 1 x d 0) v ∙ sym (read-packet t q k x l)))
+
+  pub cons-done : (x y first : ℕ) (t′ : List ℕ) → askedNumber asked ≡ firstNo (codeQuestions t q (cons x y)) → first ≡ firstFree t → t′ ≡ written t (cons x y)
+      → a ≡ RowAnswer.Done first → q′ ≡ appended q (packet 2 x y first) → RowCalled t q (cons x y) a t′ q′
+  unfolding valueOf packetOf
+  cons-done x y first t′ z f w h e =
+      row-done t q (cons x y) first a t′ q′ (asked-yes z yes) h f w (e ∙ ap (λ (n : ℕ). appended q (packet 2 x y n)) f)
+
+  pub replace-done : (k kind x y d : ℕ) (t′ : List ℕ) → k ≤ right → ReplaceKind k kind → askedNumber asked ≡ firstNo (codeQuestions t q (replaceCall k x y))
+      → d ≡ wordAt t (x - 1) k → t′ ≡ putWord t (x - 1) k y → a ≡ RowAnswer.Done d → q′ ≡ appended q (packet kind y d x)
+      → RowCalled t q (replaceCall k x y) a t′ q′
+  replace-done k kind x y d t′ l of-field z b w h e =
+      let v = read-back t x k d b in
+      let p : x - 1 ≡ pred x = omega arith in
+      row-done t q (replaceCall k x y) d a t′ q′ (asked-yes z yes) h (v ∙ sym (replace-value t k x y l))
+      (w ∙ ap (λ (i : ℕ). putWord t i k y) p ∙ sym (replace-table t k x y l))
+      (e ∙ ap (appended q) (ap (λ (n : ℕ). packet kind y n x) v ∙ sym (replace-packet t q k kind x y of-field)))
+
+  pub up-done : (x n : ℕ) → askedNumber asked ≡ firstNo (codeQuestions t q (up x n)) → a ≡ RowAnswer.Done 0 → q′ ≡ appended q (packet 4 x n 0)
+      → RowCalled t q (up x n) a t q′
+  unfolding valueOf written packetOf
+  up-done x n z h e = row-done t q (up x n) 0 a t q′ (asked-yes z yes) h refl refl e
+
+  pub down-done : (x n : ℕ) → askedNumber asked ≡ firstNo (codeQuestions t q (down x n)) → a ≡ RowAnswer.Done 0 → q′ ≡ appended q (packet 5 x n 0)
+      → RowCalled t q (down x n) a t q′
+  unfolding valueOf written packetOf
+  down-done x n z h e = row-done t q (down x n) 0 a t q′ (asked-yes z yes) h refl refl e
 
 -- a refusal leaves table and queue as they were, whatever the call
 pub refusal-keeps : (t : List ℕ) (q : Queue) (r : RowCall) (f : Refusal) (t′ : List ℕ) (q′ : Queue) → RowCalled t q r (RowAnswer.Refused f) t′ q′ → (t′ ≡ t) × (q′ ≡ q)

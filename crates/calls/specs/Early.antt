@@ -1,14 +1,12 @@
--- Questions 1 to 5 as one chain of numbers, and the plain facts of question 1 that the later ones lean on.
+-- Questions 1 to 5 as one chain of numbers.
 use mathlib.Core.Path.{_≡_}
 use mathlib.Core.Logic.{_⊎_}
 use mathlib.Core.Bool.{Bool, _&&_}
 use mathlib.Core.List.{List}
-use Prim.Native.Nat.{ℕ, _≤_, _<_}
-use lib.ListN.{length}
+use Prim.Native.Nat.{ℕ}
 use Rattle.machine.specs.declared.Queue.{Queue}
 use Rattle.machine.specs.Words.{isCell, isLegal}
-use Rattle.machine.specs.Table.{capacity, firstFree, lastFree, tableLength}
-use Rattle.machine.specs.Queue.{slots}
+use Rattle.machine.specs.Table.{capacity}
 use Rattle.machine.specs.Questions.{refusedBy, inRange, numberInRange}
 
 -- questions 1, 3 and 4
@@ -24,12 +22,6 @@ firstOf (ℕ.suc n) m = ℕ.suc n
 -- and question 5
 unfoldable pub cellNumber : List ℕ → Queue → ℕ → ℕ → ℕ → ℕ
 cellNumber t q n x y = firstOf (wordsNumber t q n x y) (refusedBy (isCell (capacity t) x) 5 0)
-
--- what question 1 says that indices and sums need
-pub record Within (t : List ℕ) (q : Queue) : Type 0 where
-  pub room : tableLength (capacity t) ≤ length t
-  pub place : q .place < slots
-  pub count : q .count ≤ slots
 
 -- a replace's kinds
 abbrev pub Replaces : ℕ → Type 0

@@ -2,61 +2,73 @@
 use mathlib.Core.Path.{_≡_}
 use mathlib.Core.Bool.{Bool, true, false, not}
 use mathlib.Core.List.{List}
-use Prim.Native.Nat.{ℕ, pred, _+_, _≤_}
-use lib.Dec.{leb, ltb, eqb}
-use Rattle.machine.specs.Words.{isCell, ceiling}
-use Rattle.machine.specs.Table.{rootCount, cellCount, capacity, wordAt}
-use Rattle.machine.specs.Queue.{Packet, slots}
-use Rattle.machine.specs.Packets.{root, cell, plus, minus, waitingChange}
-use Rattle.machine.specs.Questions.{refusedBy}
-use Rattle.calls.specs.declared.operands.Tally.{Tally}
+use Prim.Native.Nat.{ℕ, pred, _+_}
+use lib.Dec.{eqb}
+use Rattle.machine.specs.declared.Queue.{Queue}
+use Rattle.machine.specs.Words.{isCell}
+use Rattle.machine.specs.Table.{capacity, wordAt}
+use Rattle.machine.specs.Queue.{Packet}
+use Rattle.machine.specs.Packets.{Counter, root, cell, plus, minus, waitingChange}
+use Rattle.machine.specs.Step.{counterWord}
+use Rattle.machine.specs.Questions.{refusedBy, slotEmpty}
+use Rattle.queue.specs.declared.Sums.{Sums}
+use Rattle.queue.specs.Sums.{atLeast, atMostCeiling}
 
--- of a cell, its counters and the waiting changes; a word that is no cell passes every test: held twice, with no pointers
-pub record TallyOf (t : List ℕ) (ps : List Packet) (w : ℕ) (r : Tally) : Type 0 where
-  pub rootplus : isCell (capacity t) w ≡ true → r .rootplus ≡ wordAt t (pred w) rootCount + waitingChange root plus w ps
-  pub rootminus : isCell (capacity t) w ≡ true → r .rootminus ≡ waitingChange root minus w ps
-  pub cellplus : isCell (capacity t) w ≡ true → r .cellplus ≡ wordAt t (pred w) cellCount + waitingChange cell plus w ps
-  pub cellminus : isCell (capacity t) w ≡ true → r .cellminus ≡ waitingChange cell minus w ps
-  pub other : isCell (capacity t) w ≡ false → (r .rootplus ≡ 2) × (r .rootminus ≡ 0) × (r .cellplus ≡ 0) × (r .cellminus ≡ 0)
+-- of a cell, the counter k and its waiting changes; of any other word the constant n
+pub record CounterTally (k : Counter) (n : ℕ) (t : List ℕ) (ps : List Packet) (w r l : ℕ) : Type 0 where
+  pub raised : isCell (capacity t) w ≡ true → r ≡ wordAt t (pred w) (counterWord k) + waitingChange k plus w ps
+  pub lowered : isCell (capacity t) w ≡ true → l ≡ waitingChange k minus w ps
+  pub other : isCell (capacity t) w ≡ false → (r ≡ n) × (l ≡ 0)
 
--- small enough that sums fit 32 bits
-pub record Small (r : Tally) : Type 0 where
-  pub rootplus : r .rootplus ≤ 4259775
-  pub rootminus : r .rootminus ≤ 4259775
-  pub cellplus : r .cellplus ≤ 4259775
-  pub cellminus : r .cellminus ≤ 4259775
+-- a word that is no cell passes every test: held twice, with no pointers
+pub record TallyOf (t : List ℕ) (ps : List Packet) (w : ℕ) (s : Sums) : Type 0 where
+  pub held : CounterTally root 2 t ps w (s .held .raised) (s .held .lowered)
+  pub pointers : CounterTally cell 0 t ps w (s .pointers .raised) (s .pointers .lowered)
 
--- held n times or more
-abbrev pub held : Tally → ℕ → Bool
-held r n = leb (r .rootminus + n) (r .rootplus)
+-- question 6: held n times or more
+abbrev pub heldTimes : Sums → ℕ → Bool
+heldTimes s n = atLeast (s .held .raised) (s .held .lowered) n
 
--- the first "no" among questions 6 to 10, by numbers: of a read, where the word read is the cell itself if same is 1
-abbrev pub readNumber : Tally → Tally → ℕ → ℕ → ℕ
-readNumber x w same count =
-    refusedBy (held x 1) 6 (refusedBy (ltb count slots) 7 (refusedBy (leb (w .rootplus + 1) (ceiling + w .rootminus + same)) 9 0))
+-- question 9: after so many further raises and lowerings the held count is at most 4,095
+abbrev pub heldAfter : Sums → ℕ → ℕ → Bool
+heldAfter s more less = atMostCeiling (s .held .raised + more) (s .held .lowered + less)
+
+-- question 10: and so are the pointers
+abbrev pub pointersAfter : Sums → ℕ → ℕ → Bool
+pointersAfter s more less = atMostCeiling (s .pointers .raised + more) (s .pointers .lowered + less)
+
+-- the first "no" among questions 6 to 10, by sums: of a read, where the word read is the cell itself if same is 1
+abbrev pub readNumber : Queue → Sums → Sums → ℕ → ℕ
+readNumber q x w same =
+    refusedBy (heldTimes x 1) 6
+    (refusedBy (slotEmpty q) 7
+    (refusedBy (heldAfter w 1 same) 9 0))
 
 -- of a cons, where both operands are one word if same is 1
-abbrev pub consNumber : Tally → Tally → ℕ → ℕ → ℕ → ℕ
-consNumber x y same count first =
-    refusedBy (held x (1 + same)) 6
-    (refusedBy (held y (1 + same)) 6
-    (refusedBy (ltb count slots) 7
+abbrev pub consNumber : Queue → Sums → Sums → ℕ → ℕ → ℕ
+consNumber q x y same first =
+    refusedBy (heldTimes x (1 + same)) 6
+    (refusedBy (heldTimes y (1 + same)) 6
+    (refusedBy (slotEmpty q) 7
     (refusedBy (not (eqb first 0)) 8
-    (refusedBy (leb (x .cellplus + (1 + same)) (ceiling + x .cellminus)) 10
-    (refusedBy (leb (y .cellplus + (1 + same)) (ceiling + y .cellminus)) 10 0)))))
+    (refusedBy (pointersAfter x (1 + same) 0) 10
+    (refusedBy (pointersAfter y (1 + same) 0) 10 0)))))
 
 -- of a replace in x by y, where the two are one word if same is 1, and y is the word detached if kept is 1
-abbrev pub replaceNumber : Tally → Tally → ℕ → ℕ → ℕ → ℕ
-replaceNumber y x same kept count =
-    refusedBy (held y (1 + same)) 6
-    (refusedBy (held x (1 + same)) 6
-    (refusedBy (ltb count slots) 7
-    (refusedBy (leb (y .cellplus + 1) (ceiling + y .cellminus + kept)) 10 0)))
+abbrev pub replaceNumber : Queue → Sums → Sums → ℕ → ℕ → ℕ
+replaceNumber q y x same kept =
+    refusedBy (heldTimes y (1 + same)) 6
+    (refusedBy (heldTimes x (1 + same)) 6
+    (refusedBy (slotEmpty q) 7
+    (refusedBy (pointersAfter y 1 kept) 10 0)))
 
 -- of up by n
-abbrev pub upNumber : Tally → ℕ → ℕ → ℕ
-upNumber x n count = refusedBy (held x 1) 6 (refusedBy (ltb count slots) 7 (refusedBy (leb (x .rootplus + n) (ceiling + x .rootminus)) 9 0))
+abbrev pub upNumber : Queue → Sums → ℕ → ℕ
+upNumber q x n =
+    refusedBy (heldTimes x 1) 6
+    (refusedBy (slotEmpty q) 7
+    (refusedBy (heldAfter x n 0) 9 0))
 
 -- of down by n
-abbrev pub downNumber : Tally → ℕ → ℕ → ℕ
-downNumber x n count = refusedBy (held x n) 6 (refusedBy (ltb count slots) 7 0)
+abbrev pub downNumber : Queue → Sums → ℕ → ℕ
+downNumber q x n = refusedBy (heldTimes x n) 6 (refusedBy (slotEmpty q) 7 0)

@@ -1,17 +1,16 @@
 // What a fresh writes: the header and the chain of all cells.
-use machine::CellCount;
-use machine::RootCount;
 ghost use mathlib.Core.Path.{_≡_};
 ghost use mathlib.Core.Bool.{cond};
 ghost use Prim.Native.Nat.{suc, _<_, _≤_};
 ghost use lib.Dec.{eqb};
 ghost use lib.ListN.{length};
-ghost use Rattle.machine.specs.Table.{tableLength, putCell};
+ghost use Rattle.machine.specs.Words.{mostCells};
+ghost use Rattle.machine.specs.Table.{tableLength, freeCell, putCell};
 ghost use Rattle.machine.specs.Calls.{freshTable};
 
-// The number of the cell after the place i, of c cells; 0 after the last.
-fn next_number(c: u16, i: u16) -> u16
-    requires { ⌜ (i < c) × (c ≤ 4096) ⌝ }
+// The cell after the index i, of c cells; 0 after the last.
+fn next_cell(c: u16, i: u16) -> u16
+    requires { ⌜ (i < c) × (c ≤ mostCells) ⌝ }
     ensures { λ r. ⌜ r ≡ cond (eqb (suc i) c) 0 (suc (suc i)) ⌝ }
 {
     if i + 1 == c {
@@ -21,16 +20,15 @@ fn next_number(c: u16, i: u16) -> u16
 }
 
 fn chain_cell(table: &mut [u16], c: u16, i: u16)
-    requires { ⌜ (i < c) × (c ≤ 4096) × (tableLength c ≤ length (now table)) ⌝ }
-    ensures { λ r. ⌜ now (table .exit) ≡ putCell (now (table .entry)) i (cond (eqb (suc i) c) 0 (suc (suc i))) 0 0 0 0 ⌝ }
+    requires { ⌜ (i < c) × (c ≤ mostCells) × (tableLength c ≤ length (now table)) ⌝ }
+    ensures { λ r. ⌜ now (table .exit) ≡ putCell (now (table .entry)) i (freeCell (cond (eqb (suc i) c) 0 (suc (suc i)))) ⌝ }
 {
-    let next = next_number(c, i);
-    cells::set_cell(table, i as usize, next, 0, RootCount(0), CellCount(0), 0);
+    cells::set_free(table, i as usize, next_cell(c, i));
 }
 
 // All cells in a chain 1 to c.
 pub fn make_chain(table: &mut [u16], c: u16)
-    requires { ⌜ (1 ≤ c) × (c ≤ 4096) × (tableLength c ≤ length (now table)) ⌝ }
+    requires { ⌜ (1 ≤ c) × (c ≤ mostCells) × (tableLength c ≤ length (now table)) ⌝ }
     ensures { λ r. ⌜ now (table .exit) ≡ freshTable c (now (table .entry)) ⌝ }
 {
     cells::set_capacity(table, c);

@@ -2,32 +2,31 @@
 mod chain;
 mod early;
 mod late;
-mod numbers;
 mod operands;
 mod refusals;
+mod tests;
 
 use chain::make_chain;
-use machine::CellCount;
+use machine::Asked;
 use machine::FreshAnswer;
 use machine::Queue;
 use machine::Refusal;
-use machine::RootCount;
 use machine::RowAnswer;
 use queue::Packet;
 use refusals::cons_refusal;
 use refusals::down_refusal;
 use refusals::read_refusal;
-use refusals::refusal_of;
 use refusals::replace_refusal;
 use refusals::up_refusal;
 ghost use mathlib.Core.Path.{_≡_};
 ghost use mathlib.Core.Bool.{cond};
-ghost use Prim.Native.Nat.{_≤_};
+ghost use Prim.Native.Nat.{_≤_, _<_};
 ghost use lib.Dec.{eqb};
 ghost use lib.ListN.{length};
-ghost use Rattle.machine.specs.Table.{right, firstFree, lastFree, tableLength};
-ghost use Rattle.machine.specs.Calls.{refused, car, cdr, cons, setLeft, setRight, up, down, written};
-ghost use Rattle.machine.specs.Answers.{rowReply};
+ghost use Rattle.machine.specs.Table.{header, right, firstFree, lastFree, tableLength};
+ghost use Rattle.machine.specs.Queue.{slots, appended};
+ghost use Rattle.machine.specs.Calls.{car, cdr, cons, setLeft, setRight, up, down, written};
+ghost use Rattle.queue.specs.Sums.{packetOf};
 ghost use Rattle.calls.specs.Called.{readCall, replaceCall, ReplaceKind, RowCalled, FreshCalled};
 
 // A row call's answer beside the queue.
@@ -46,19 +45,13 @@ pub struct FreshReply {
 pub fn fresh(table: &mut [u16], queue: Queue, c: u16) -> FreshReply
     ensures { λ r. ⌜ FreshCalled (now (table .entry)) queue c (r .answer) (now (table .exit)) (r .queue) ⌝ }
 {
-    if c < 1 {
+    if !questions::cells_in_range(c) {
         return FreshReply {
             answer: FreshAnswer::Refused(Refusal::NumberOutOfRange),
             queue: queue,
         };
     }
-    if 4096 < c {
-        return FreshReply {
-            answer: FreshAnswer::Refused(Refusal::NumberOutOfRange),
-            queue: queue,
-        };
-    }
-    if table.len() < 3 + 5 * (c as usize) {
+    if !questions::long_enough(c, table) {
         return FreshReply {
             answer: FreshAnswer::Refused(Refusal::StoreOutOfRange),
             queue: queue,
@@ -71,14 +64,24 @@ pub fn fresh(table: &mut [u16], queue: Queue, c: u16) -> FreshReply
     }
 }
 
-// The question of this number said "no": the queue goes back as it came.
-fn refused_by(number: u16, queue: Queue) -> RowReply
-    requires { ⌜ (1 ≤ number) × (number ≤ 10) ⌝ }
-    ensures { λ r. ⌜ (rowReply (r .answer) ≡ refused number) × (r .queue ≡ queue) ⌝ }
+// A question said "no": the queue goes back as it came.
+fn refused(queue: Queue, refusal: Refusal) -> RowReply
+    ensures { λ r. ⌜ (r .answer ≡ RowAnswer.Refused refusal) × (r .queue ≡ queue) ⌝ }
 {
     RowReply {
-        answer: RowAnswer::Refused(refusal_of(number)),
+        answer: RowAnswer::Refused(refusal),
         queue: queue,
+    }
+}
+
+// An accepted call's packet joins the queue.
+fn done(queue: Queue, value: u16, packet: Packet) -> RowReply
+    requires { ⌜ (queue .place < slots) × (queue .count < slots) ⌝ }
+    ensures { λ r. ⌜ (r .answer ≡ RowAnswer.Done value) × (r .queue ≡ appended queue (packetOf packet)) ⌝ }
+{
+    RowReply {
+        answer: RowAnswer::Done(value),
+        queue: queue::append(queue, packet),
     }
 }
 
@@ -87,23 +90,18 @@ fn read(table: &[u16], queue: Queue, k: usize, x: u16) -> RowReply
     requires { ⌜ k ≤ right ⌝ }
     ensures { λ r. ⌜ RowCalled (now (table .entry)) queue (readCall k x) (r .answer) (now (table .entry)) (r .queue) ⌝ }
 {
-    let number = read_refusal(table, queue, k, x);
-    if number != 0 {
-        return refused_by(number, queue);
+    let asked = read_refusal(table, queue, k, x);
+    if let Asked::No(refusal) = asked {
+        return refused(queue, refusal);
     }
     let w = cells::field(table, (x as usize) - 1, k);
-    RowReply {
-        answer: RowAnswer::Done(w),
-        queue: queue::append(
-            queue,
-            Packet {
-                kind: 1,
-                a: x,
-                b: w,
-                c: 0,
-            },
-        ),
-    }
+    let packet = Packet {
+        kind: Packet::READ,
+        a: x,
+        b: w,
+        c: 0,
+    };
+    done(queue, w, packet)
 }
 
 pub fn car(table: &[u16], queue: Queue, x: u16) -> RowReply
@@ -120,7 +118,7 @@ pub fn cdr(table: &[u16], queue: Queue, x: u16) -> RowReply
 
 // The last free end once the first free cell, whose next one is given, is taken.
 fn end_without_first(table: &[u16], next: u16) -> u16
-    requires { ⌜ 3 ≤ length (now table) ⌝ }
+    requires { ⌜ header ≤ length (now table) ⌝ }
     ensures { λ r. ⌜ r ≡ cond (eqb next 0) 0 (lastFree (now (table .entry))) ⌝ }
 {
     if next == 0 {
@@ -129,117 +127,108 @@ fn end_without_first(table: &[u16], next: u16) -> u16
     cells::last_free(table)
 }
 
-// The first free cell leaves the chain and gets both operands, root count 1 and cell count 0.
+// The first free cell leaves the chain and gets both operands.
 fn take_first(table: &mut [u16], first: u16, x: u16, y: u16)
     requires { ⌜ (first ≡ firstFree (now table)) × (1 ≤ first) × (tableLength first ≤ length (now table)) ⌝ }
     ensures { λ r. ⌜ now (table .exit) ≡ written (now (table .entry)) (cons x y) ⌝ }
 {
-    let place = (first as usize) - 1;
-    let next = cells::field(table, place, cells::LEFT);
+    let index = (first as usize) - 1;
+    let next = cells::field(table, index, cells::LEFT);
     let last = end_without_first(table, next);
     cells::set_ends(table, next, last);
-    cells::set_cell(table, place, x, y, RootCount(1), CellCount(0), 1);
+    cells::set_new(table, index, x, y);
 }
 
 pub fn cons(table: &mut [u16], queue: Queue, x: u16, y: u16) -> RowReply
     ensures { λ r. ⌜ RowCalled (now (table .entry)) queue (cons x y) (r .answer) (now (table .exit)) (r .queue) ⌝ }
 {
-    let number = cons_refusal(table, queue, x, y);
-    if number != 0 {
-        return refused_by(number, queue);
+    let asked = cons_refusal(table, queue, x, y);
+    if let Asked::No(refusal) = asked {
+        return refused(queue, refusal);
     }
     let first = cells::first_free(table);
     take_first(table, first, x, y);
-    RowReply {
-        answer: RowAnswer::Done(first),
-        queue: queue::append(
-            queue,
-            Packet {
-                kind: 2,
-                a: x,
-                b: y,
-                c: first,
-            },
-        ),
-    }
+    let packet = Packet {
+        kind: Packet::CONS,
+        a: x,
+        b: y,
+        c: first,
+    };
+    done(queue, first, packet)
 }
 
-// A replace of field k of x by y; its packet's kind goes by the field.
-fn replace(table: &mut [u16], queue: Queue, k: usize, kind: u16, x: u16, y: u16) -> RowReply
-    requires { ⌜ ReplaceKind k kind ⌝ }
+// The kind of a replace, by the field replaced.
+fn replace_kind(k: usize) -> u16
+    requires { ⌜ k ≤ right ⌝ }
+    ensures { λ r. ⌜ ReplaceKind k r ⌝ }
+{
+    if k == cells::LEFT {
+        return Packet::REPLACE_LEFT;
+    }
+    Packet::REPLACE_RIGHT
+}
+
+// A replace of field k of x by y.
+fn replace(table: &mut [u16], queue: Queue, k: usize, x: u16, y: u16) -> RowReply
+    requires { ⌜ k ≤ right ⌝ }
     ensures { λ r. ⌜ RowCalled (now (table .entry)) queue (replaceCall k x y) (r .answer) (now (table .exit)) (r .queue) ⌝ }
 {
-    let number = replace_refusal(table, queue, k, kind, x, y);
-    if number != 0 {
-        return refused_by(number, queue);
+    let asked = replace_refusal(table, queue, k, x, y);
+    if let Asked::No(refusal) = asked {
+        return refused(queue, refusal);
     }
-    let place = (x as usize) - 1;
-    let d = cells::field(table, place, k);
-    cells::set_field(table, place, k, y);
-    RowReply {
-        answer: RowAnswer::Done(d),
-        queue: queue::append(
-            queue,
-            Packet {
-                kind: kind,
-                a: y,
-                b: d,
-                c: x,
-            },
-        ),
-    }
+    let index = (x as usize) - 1;
+    let d = cells::field(table, index, k);
+    cells::set_field(table, index, k, y);
+    let packet = Packet {
+        kind: replace_kind(k),
+        a: y,
+        b: d,
+        c: x,
+    };
+    done(queue, d, packet)
 }
 
 pub fn set_left(table: &mut [u16], queue: Queue, x: u16, y: u16) -> RowReply
     ensures { λ r. ⌜ RowCalled (now (table .entry)) queue (setLeft x y) (r .answer) (now (table .exit)) (r .queue) ⌝ }
 {
-    replace(table, queue, cells::LEFT, 3, x, y)
+    replace(table, queue, cells::LEFT, x, y)
 }
 
 pub fn set_right(table: &mut [u16], queue: Queue, x: u16, y: u16) -> RowReply
     ensures { λ r. ⌜ RowCalled (now (table .entry)) queue (setRight x y) (r .answer) (now (table .exit)) (r .queue) ⌝ }
 {
-    replace(table, queue, cells::RIGHT, 6, x, y)
+    replace(table, queue, cells::RIGHT, x, y)
 }
 
 pub fn up(table: &[u16], queue: Queue, x: u16, n: u16) -> RowReply
     ensures { λ r. ⌜ RowCalled (now (table .entry)) queue (up x n) (r .answer) (now (table .entry)) (r .queue) ⌝ }
 {
-    let number = up_refusal(table, queue, x, n);
-    if number != 0 {
-        return refused_by(number, queue);
+    let asked = up_refusal(table, queue, x, n);
+    if let Asked::No(refusal) = asked {
+        return refused(queue, refusal);
     }
-    RowReply {
-        answer: RowAnswer::Done(0),
-        queue: queue::append(
-            queue,
-            Packet {
-                kind: 4,
-                a: x,
-                b: n,
-                c: 0,
-            },
-        ),
-    }
+    let packet = Packet {
+        kind: Packet::UP,
+        a: x,
+        b: n,
+        c: 0,
+    };
+    done(queue, 0, packet)
 }
 
 pub fn down(table: &[u16], queue: Queue, x: u16, n: u16) -> RowReply
     ensures { λ r. ⌜ RowCalled (now (table .entry)) queue (down x n) (r .answer) (now (table .entry)) (r .queue) ⌝ }
 {
-    let number = down_refusal(table, queue, x, n);
-    if number != 0 {
-        return refused_by(number, queue);
+    let asked = down_refusal(table, queue, x, n);
+    if let Asked::No(refusal) = asked {
+        return refused(queue, refusal);
     }
-    RowReply {
-        answer: RowAnswer::Done(0),
-        queue: queue::append(
-            queue,
-            Packet {
-                kind: 5,
-                a: x,
-                b: n,
-                c: 0,
-            },
-        ),
-    }
+    let packet = Packet {
+        kind: Packet::DOWN,
+        a: x,
+        b: n,
+        c: 0,
+    };
+    done(queue, 0, packet)
 }

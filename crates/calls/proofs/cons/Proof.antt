@@ -1,66 +1,87 @@
-use mathlib.Core.Path.{sym, ap, _∙_}
-use Prim.Native.Nat.{ℕ}
 use native.Mathlib.Omega.{arith}
 use borrow.Author.Needs.{needs}
 use Rattle.machine.specs.Table.{firstFree}
-use Rattle.machine.specs.Queue.{packet, appended}
-use Rattle.machine.specs.Calls.{cons, valueOf, packetOf}
-use Rattle.calls.proofs.RowLaws.{refusal-range, row-refused, row-done, Ready, cons-ready}
+use Rattle.machine.specs.Calls.{cons}
+use Rattle.calls.proofs.RowLaws.{row-refused, Ready, cons-ready, cons-done}
 use Rattle.calls.proofs.cons.Statement.{statement}
 use Rattle.calls.proofs.cons.Tie as tie
 
 cons-refusal-requires : tie.Need-cons-refusal-requires
 cons-refusal-requires c κs = search needs
 
-accepted : (c : tie.Else1) → Ready (c .before .before .before .before .args .table .now) (c .before .before .before .before .args .queue) (firstFree (c .before .before .before .before .args .table .now))
-accepted c = cons-ready _ _ _ _ (sym (c .before .cons-refusal .ensures) ∙ c .if1 .left)
+-- what the questions' "yes" leaves
+accepted : (c : tie.After-enum-told)
+    → Ready (c .before .before .before .before .before .args .table .now) (c .before .before .before .before .before .args .queue) (firstFree (c .before .before .before .before .before .args .table .now))
+accepted c =
+    let at-refusal = c .before .before in
+    let i = at-refusal .before .before .before .args in
+    let refusal = at-refusal .cons-refusal in
+    cons-ready (i .table .now) (i .queue) (refusal .result) (c .enum-told .given .1) (i .x) (i .y) (refusal .ensures)
 
-refused-by-requires : tie.Need-refused-by-requires
-refused-by-requires c κs = refusal-range _ _ (cons _ _) _ (c .before .cons-refusal .ensures) (c .if1 .taken)
+enum-known-asked : tie.Need-enum-known-asked
+enum-known-asked c = search needs
+
+refused-requires : tie.Need-refused-requires
+refused-requires c κs = search needs
 
 same-length : tie.Need-same-length
 same-length c = search needs
 
 returns : tie.Need-returns
-returns c = row-refused _ _ (cons _ _) _ _ _ (c .before .before .cons-refusal .ensures) (c .before .if1 .taken) (c .refused-by .ensures .0) (c .refused-by .ensures .1)
+returns c =
+    let at-asked = c .before .before in
+    let at-refusal = at-asked .before .before in
+    let i = at-refusal .before .before .before .args in
+    let refusal = at-refusal .cons-refusal in
+    let no = at-asked .asked .given in
+    row-refused (i .table .now) (i .queue) (cons (i .x) (i .y)) (refusal .result) (no .0 .0) (c .refused .result .answer) (c .refused .result .queue)
+    (refusal .ensures) (no .1) (c .refused .ensures .0) (c .refused .ensures .1)
+
+enum-told : tie.Need-enum-told
+enum-told c = search needs
 
 first-free-requires : tie.Need-first-free-requires
 first-free-requires c κs =
-    let r = accepted (c .before) in
-    let s = r .shape in
-    omega arith
+    let r = accepted (c .before) in omega arith
 
 take-first-requires : tie.Need-take-first-requires
 take-first-requires c κs =
     let r = accepted (c .before .before .before) in
-    let s = r .shape in
     let e = c .before .first-free .ensures in
     (e, omega arith, omega arith)
 
-append-requires : tie.Need-append-requires
-append-requires c κs = (accepted (c .before .before .before .before .before .before) .shape .place, accepted (c .before .before .before .before .before .before) .slot)
+done-requires : tie.Need-done-requires
+done-requires c κs =
+    let at-told = c .before .before .before .before .before .before in
+    (accepted at-told .place, accepted at-told .slot)
 
 same-length-2 : tie.Need-same-length-2
 same-length-2 c = search needs
 
 returns-2 : tie.Need-returns-2
-unfolding valueOf packetOf
 returns-2 c =
-    let e = c .before .before .before .before .before .first-free .ensures in
-    let q = c .before .before .before .before .before .before .before .before .before .before .before .args .queue in
-    row-done _ _ (cons _ _) _ _ _ (sym (c .before .before .before .before .before .before .before .before .cons-refusal .ensures) ∙ c .before .before .before .before .before .before .before .if1 .left) e (c .before .before .before .take-first .ensures)
-    (c .append .ensures ∙ ap (λ (z : ℕ). appended q (packet 2 (c .before .before .before .before .before .before .before .before .before .before .before .args .x) (c .before .before .before .before .before .before .before .before .before .before .before .args .y) z)) e)
+    let at-take = c .before .before .before in
+    let at-first = at-take .before .before in
+    let at-told = at-first .before .before in
+    let at-refusal = at-told .before .before in
+    let i = at-refusal .before .before .before .args in
+    let refusal = at-refusal .cons-refusal in
+    let first = at-first .first-free in
+    cons-done (i .table .now) (i .queue) (refusal .result) (at-told .enum-told .given .1) (c .done .result .answer) (c .done .result .queue)
+    (i .x) (i .y) (first .result) _ (refusal .ensures) (first .ensures) (at-take .take-first .ensures) (c .done .ensures .0) (c .done .ensures .1)
 
 pub cons-spec : {M : Type 1} → statement M
 cons-spec =
     tie.close
     (tie.spec
     cons-refusal-requires
-    refused-by-requires
+    enum-known-asked
+    refused-requires
     same-length
     returns
+    enum-told
     first-free-requires
     take-first-requires
-    append-requires
+    done-requires
     same-length-2
     returns-2)

@@ -1,6 +1,6 @@
 use borrow.Author.Tests.{ne-eqb}
 use borrow.Author.Needs.{needs}
-use Rattle.calls.proofs.Rules.{chain}
+use Rattle.questions.proofs.Rules.{chain}
 use Rattle.calls.proofs.end_without_first.Statement.{statement}
 use Rattle.calls.proofs.end_without_first.Tie as tie
 

@@ -1,11 +1,6 @@
-use mathlib.Core.Path.{sym, ap, _∙_}
-use Prim.Native.Nat.{ℕ}
-use native.Mathlib.Omega.{arith}
 use borrow.Author.Needs.{needs}
-use Rattle.machine.specs.Queue.{packet, appended}
 use Rattle.calls.specs.Called.{readCall}
-use Rattle.calls.proofs.CallLaws.{read-packet, read-back}
-use Rattle.calls.proofs.RowLaws.{refusal-range, row-refused, row-done, Ready, read-ready, read-value, read-table}
+use Rattle.calls.proofs.RowLaws.{row-refused, Ready, read-ready, read-done}
 use Rattle.calls.proofs.read.Statement.{statement}
 use Rattle.calls.proofs.read.Tie as tie
 
@@ -13,47 +8,65 @@ read-refusal-requires : tie.Need-read-refusal-requires
 read-refusal-requires c κs = search needs
 
 -- what the questions' "yes" leaves
-accepted : (c : tie.Else1) → Ready (c .before .before .before .args .table .now) (c .before .before .before .args .queue) (c .before .before .before .args .x)
-accepted c = read-ready _ _ (c .before .before .before .args .k) _ (c .before .before .before .pre) (sym (c .before .read-refusal .ensures) ∙ c .if1 .left)
+accepted : (c : tie.After-enum-told)
+    → Ready (c .before .before .before .before .args .table .now) (c .before .before .before .before .args .queue) (c .before .before .before .before .args .x)
+accepted c =
+    let at-refusal = c .before .before in
+    let start = at-refusal .before .before in
+    let i = start .args in
+    let refusal = at-refusal .read-refusal in
+    read-ready (i .table .now) (i .queue) (refusal .result) (c .enum-told .given .1) (i .k) (i .x) (start .pre) (refusal .ensures)
 
-refused-by-requires : tie.Need-refused-by-requires
-refused-by-requires c κs = refusal-range _ _ (readCall (c .before .before .before .args .k) (c .before .before .before .args .x)) _ (c .before .read-refusal .ensures) (c .if1 .taken)
+enum-known-asked : tie.Need-enum-known-asked
+enum-known-asked c = search needs
+
+refused-requires : tie.Need-refused-requires
+refused-requires c κs = search needs
 
 returns : tie.Need-returns
 returns c =
-    let i = c .before .before .before .before .args in
-    row-refused (i .table .now) (i .queue) (readCall (i .k) (i .x)) _ _ _ (c .before .before .read-refusal .ensures) (c .before .if1 .taken) (c .refused-by .ensures .0) (c .refused-by .ensures .1)
+    let at-asked = c .before .before in
+    let at-refusal = at-asked .before .before in
+    let i = at-refusal .before .before .args in
+    let refusal = at-refusal .read-refusal in
+    let no = at-asked .asked .given in
+    row-refused (i .table .now) (i .queue) (readCall (i .k) (i .x)) (refusal .result) (no .0 .0) (c .refused .result .answer) (c .refused .result .queue)
+    (refusal .ensures) (no .1) (c .refused .ensures .0) (c .refused .ensures .1)
+
+enum-told : tie.Need-enum-told
+enum-told c = search needs
 
 sub-field : tie.Need-sub-field
-sub-field c = accepted c .number
+sub-field c = accepted c .some
 
 field-requires : tie.Need-field-requires
-field-requires c κs =
-    let a = accepted c in
-    let s = a .shape in
-    (omega arith, c .before .before .before .pre)
+field-requires c κs = (accepted c .inside, c .before .before .before .before .pre)
 
-append-requires : tie.Need-append-requires
-append-requires c κs = (accepted (c .before) .shape .place, accepted (c .before) .slot)
+done-requires : tie.Need-done-requires
+done-requires c κs = (accepted (c .before) .place, accepted (c .before) .slot)
 
 returns-2 : tie.Need-returns-2
 returns-2 c =
-    let i = c .before .before .before .before .before .args in
-    let t = i .table .now in
-    let l = c .before .before .before .before .before .pre in
-    let w = read-back t (i .x) (i .k) _ (c .before .field .ensures) in
-    row-done t (i .queue) (readCall (i .k) (i .x)) _ t _ (sym (c .before .before .before .read-refusal .ensures) ∙ c .before .before .if1 .left)
-    (w ∙ sym (read-value t (i .k) (i .x) l)) (sym (read-table t (i .k) (i .x) l))
-    (c .append .ensures ∙ ap (appended (i .queue)) (ap (λ (d : ℕ). packet 1 (i .x) d 0) w ∙ sym (read-packet t (i .queue) (i .k) (i .x) l)))
+    let at-field = c .before in
+    let at-told = at-field .before in
+    let at-refusal = at-told .before .before in
+    let start = at-refusal .before .before in
+    let i = start .args in
+    let refusal = at-refusal .read-refusal in
+    let w = at-field .field in
+    read-done (i .table .now) (i .queue) (refusal .result) (at-told .enum-told .given .1) (c .done .result .answer) (c .done .result .queue)
+    (i .k) (i .x) (w .result) (start .pre) (refusal .ensures) (w .ensures) (c .done .ensures .0) (c .done .ensures .1)
 
 pub read-spec : {M : Type 1} → statement M
 read-spec =
     tie.close
     (tie.spec
     read-refusal-requires
-    refused-by-requires
+    enum-known-asked
+    refused-requires
     returns
+    enum-told
     sub-field
     field-requires
-    append-requires
+    done-requires
     returns-2)

@@ -1,73 +1,96 @@
-use mathlib.Core.Path.{sym, ap, _∙_}
-use Prim.Native.Nat.{ℕ}
-use native.Mathlib.Omega.{arith}
 use borrow.Author.Needs.{needs}
-use Rattle.machine.specs.Table.{putWord}
-use Rattle.machine.specs.Queue.{packet, appended}
 use Rattle.calls.specs.Called.{replaceCall}
-use Rattle.calls.proofs.CallLaws.{replace-packet, replace-field, read-back}
-use Rattle.calls.proofs.RowLaws.{refusal-range, row-refused, row-done, Ready, replace-ready, replace-value, replace-table}
+use Rattle.calls.proofs.RowLaws.{row-refused, Ready, replace-ready, replace-done}
 use Rattle.calls.proofs.replace.Statement.{statement}
 use Rattle.calls.proofs.replace.Tie as tie
 
 replace-refusal-requires : tie.Need-replace-refusal-requires
 replace-refusal-requires c κs = search needs
 
-accepted : (c : tie.Else1) → Ready (c .before .before .before .before .args .table .now) (c .before .before .before .before .args .queue) (c .before .before .before .before .args .x)
-accepted c = replace-ready _ _ (c .before .before .before .before .args .k) (c .before .before .before .before .args .kind) _ (c .before .before .before .before .args .y) (c .before .before .before .before .pre) (sym (c .before .replace-refusal .ensures) ∙ c .if1 .left)
+-- what the questions' "yes" leaves
+accepted : (c : tie.After-enum-told)
+    → Ready (c .before .before .before .before .before .args .table .now) (c .before .before .before .before .before .args .queue) (c .before .before .before .before .before .args .x)
+accepted c =
+    let at-refusal = c .before .before in
+    let start = at-refusal .before .before .before in
+    let i = start .args in
+    let refusal = at-refusal .replace-refusal in
+    replace-ready (i .table .now) (i .queue) (refusal .result) (c .enum-told .given .1) (i .k) (i .x) (i .y) (start .pre) (refusal .ensures)
 
-refused-by-requires : tie.Need-refused-by-requires
-refused-by-requires c κs = refusal-range _ _ (replaceCall (c .before .before .before .before .args .k) (c .before .before .before .before .args .x) (c .before .before .before .before .args .y)) _ (c .before .replace-refusal .ensures) (c .if1 .taken)
+enum-known-asked : tie.Need-enum-known-asked
+enum-known-asked c = search needs
+
+refused-requires : tie.Need-refused-requires
+refused-requires c κs = search needs
 
 same-length : tie.Need-same-length
 same-length c = search needs
 
 returns : tie.Need-returns
-returns c = row-refused _ _ (replaceCall (c .before .before .before .before .before .args .k) (c .before .before .before .before .before .args .x) (c .before .before .before .before .before .args .y)) _ _ _ (c .before .before .replace-refusal .ensures) (c .before .if1 .taken) (c .refused-by .ensures .0) (c .refused-by .ensures .1)
+returns c =
+    let at-asked = c .before .before in
+    let at-refusal = at-asked .before .before in
+    let i = at-refusal .before .before .before .args in
+    let refusal = at-refusal .replace-refusal in
+    let no = at-asked .asked .given in
+    row-refused (i .table .now) (i .queue) (replaceCall (i .k) (i .x) (i .y)) (refusal .result) (no .0 .0) (c .refused .result .answer) (c .refused .result .queue)
+    (refusal .ensures) (no .1) (c .refused .ensures .0) (c .refused .ensures .1)
 
-sub-place : tie.Need-sub-place
-sub-place c = accepted c .number
+enum-told : tie.Need-enum-told
+enum-told c = search needs
+
+sub-index : tie.Need-sub-index
+sub-index c = accepted c .some
 
 field-requires : tie.Need-field-requires
-field-requires c κs =
-    let r = accepted (c .before) in
-    let s = r .shape in
-    (omega arith, replace-field _ _ (c .before .before .before .before .before .pre))
+field-requires c κs = (accepted (c .before) .inside, c .before .before .before .before .before .before .pre)
 
 set-field-requires : tie.Need-set-field-requires
 set-field-requires c κs =
-    let r = accepted (c .before .before .before) in
-    let s = r .shape in
-    (omega arith, replace-field _ _ (c .before .before .before .before .before .before .before .pre))
+    let at-told = c .before .before .before in
+    (accepted at-told .inside, at-told .before .before .before .before .before .pre)
 
-append-requires : tie.Need-append-requires
-append-requires c κs = (accepted (c .before .before .before .before .before .before) .shape .place, accepted (c .before .before .before .before .before .before) .slot)
+replace-kind-requires : tie.Need-replace-kind-requires
+replace-kind-requires c κs = search needs
+
+done-requires : tie.Need-done-requires
+done-requires c κs =
+    let at-told = c .before .before .before .before .before .before .before in
+    (accepted at-told .place, accepted at-told .slot)
 
 same-length-2 : tie.Need-same-length-2
 same-length-2 c = search needs
 
 returns-2 : tie.Need-returns-2
 returns-2 c =
-    let i = c .before .before .before .before .before .before .before .before .before .before .before .args in
-    let t = i .table .now in
-    let h = c .before .before .before .before .before .before .before .before .before .before .before .pre in
-    let d = read-back t (i .x) (i .k) _ (c .before .before .before .before .before .field .ensures) in
-    row-done t (i .queue) (replaceCall (i .k) (i .x) (i .y)) _ _ _ (sym (c .before .before .before .before .before .before .before .before .replace-refusal .ensures) ∙ c .before .before .before .before .before .before .before .if1 .left)
-    (d ∙ sym (replace-value t (i .k) (i .kind) (i .x) (i .y) h))
-    (c .before .before .before .set-field .ensures ∙ ap (λ (p : ℕ). putWord t p (i .k) (i .y)) (omega arith) ∙ sym (replace-table t (i .k) (i .kind) (i .x) (i .y) h))
-    (c .append .ensures ∙ ap (appended (i .queue)) (ap (λ (w : ℕ). packet (i .kind) (i .y) w (i .x)) d ∙ sym (replace-packet t (i .queue) (i .k) (i .kind) (i .x) (i .y) h)))
+    let at-kind = c .before in
+    let at-set = at-kind .before .before .before in
+    let at-field = at-set .before .before in
+    let at-told = at-field .before .before in
+    let at-refusal = at-told .before .before in
+    let start = at-refusal .before .before .before in
+    let i = start .args in
+    let refusal = at-refusal .replace-refusal in
+    let kind = at-kind .replace-kind in
+    let d = at-field .field in
+    replace-done (i .table .now) (i .queue) (refusal .result) (at-told .enum-told .given .1) (c .done .result .answer) (c .done .result .queue)
+    (i .k) (kind .result) (i .x) (i .y) (d .result) _ (start .pre) (kind .ensures) (refusal .ensures) (d .ensures) (at-set .set-field .ensures)
+    (c .done .ensures .0) (c .done .ensures .1)
 
 pub replace-spec : {M : Type 1} → statement M
 replace-spec =
     tie.close
     (tie.spec
     replace-refusal-requires
-    refused-by-requires
+    enum-known-asked
+    refused-requires
     same-length
     returns
-    sub-place
+    enum-told
+    sub-index
     field-requires
     set-field-requires
-    append-requires
+    replace-kind-requires
+    done-requires
     same-length-2
     returns-2)

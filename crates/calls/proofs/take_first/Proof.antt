@@ -3,8 +3,8 @@ use Rattle.calls.proofs.RowLaws.{taken-first}
 use Rattle.calls.proofs.take_first.Statement.{statement}
 use Rattle.calls.proofs.take_first.Tie as tie
 
-sub-place : tie.Need-sub-place
-sub-place c = search needs
+sub-index : tie.Need-sub-index
+sub-index c = search needs
 
 field-requires : tie.Need-field-requires
 field-requires c κs = search needs
@@ -15,25 +15,31 @@ end-without-first-requires c κs = search needs
 set-ends-requires : tie.Need-set-ends-requires
 set-ends-requires c κs = search needs
 
-set-cell-requires : tie.Need-set-cell-requires
-set-cell-requires c κs = search needs
+set-new-requires : tie.Need-set-new-requires
+set-new-requires c κs = search needs
 
 same-length : tie.Need-same-length
 same-length c = search needs
 
 returns : tie.Need-returns
 returns c =
-    let i = c .before .before .before .before .before .before .before .before .before .before .before .before .before .args in
-    taken-first (i .table .now) _ _ (i .first) _ _ (i .x) (i .y) (c .before .before .before .before .before .before .before .before .before .before .before .before .before .pre .0) (c .before .before .before .before .before .before .before .before .before .before .field .ensures) (c .before .before .before .before .before .before .before .before .end-without-first .ensures) (c .before .before .before .before .before .before .set-ends .ensures) (c .before .before .set-cell .ensures)
+    let at-new = c .before .before in
+    let at-ends = at-new .before .before .before .before in
+    let at-last = at-ends .before .before in
+    let at-next = at-last .before .before in
+    let start = at-next .before .before .before in
+    let i = start .args in
+    taken-first (i .table .now) _ _ (i .first) (at-next .field .result) (at-last .end-without-first .result) (i .x) (i .y) (start .pre .0)
+    (at-next .field .ensures) (at-last .end-without-first .ensures) (at-ends .set-ends .ensures) (at-new .set-new .ensures)
 
 pub take-first-spec : {M : Type 1} → statement M
 take-first-spec =
     tie.close
     (tie.spec
-    sub-place
+    sub-index
     field-requires
     end-without-first-requires
     set-ends-requires
-    set-cell-requires
+    set-new-requires
     same-length
     returns)

@@ -1,28 +1,56 @@
-use mathlib.Core.Path.{refl, sym, _∙_}
 use borrow.Author.Needs.{needs}
-use Rattle.machine.specs.Calls.{up, valueOf, written, packetOf}
-use Rattle.calls.proofs.RowLaws.{refusal-range, row-refused, row-done, up-ready}
+use Rattle.machine.specs.Calls.{up}
+use Rattle.calls.proofs.RowLaws.{row-refused, up-ready, up-done}
 use Rattle.calls.proofs.up.Statement.{statement}
 use Rattle.calls.proofs.up.Tie as tie
 
 up-refusal-requires : tie.Need-up-refusal-requires
 up-refusal-requires c κs = search needs
 
-refused-by-requires : tie.Need-refused-by-requires
-refused-by-requires c κs = refusal-range _ _ (up _ _) _ (c .before .up-refusal .ensures) (c .if1 .taken)
+enum-known-asked : tie.Need-enum-known-asked
+enum-known-asked c = search needs
+
+refused-requires : tie.Need-refused-requires
+refused-requires c κs = search needs
 
 returns : tie.Need-returns
-returns c = row-refused _ _ (up _ _) _ _ _ (c .before .before .up-refusal .ensures) (c .before .if1 .taken) (c .refused-by .ensures .0) (c .refused-by .ensures .1)
+returns c =
+    let at-asked = c .before .before in
+    let at-refusal = at-asked .before .before in
+    let i = at-refusal .before .before .args in
+    let refusal = at-refusal .up-refusal in
+    let no = at-asked .asked .given in
+    row-refused (i .table .now) (i .queue) (up (i .x) (i .n)) (refusal .result) (no .0 .0) (c .refused .result .answer) (c .refused .result .queue)
+    (refusal .ensures) (no .1) (c .refused .ensures .0) (c .refused .ensures .1)
 
-append-requires : tie.Need-append-requires
-append-requires c κs =
-    let r = up-ready _ _ _ _ (sym (c .before .up-refusal .ensures) ∙ c .if1 .left) in
-    (r .shape .place, r .slot)
+enum-told : tie.Need-enum-told
+enum-told c = search needs
+
+done-requires : tie.Need-done-requires
+done-requires c κs =
+    let at-refusal = c .before .before in
+    let i = at-refusal .before .before .args in
+    let refusal = at-refusal .up-refusal in
+    let r = up-ready (i .table .now) (i .queue) (refusal .result) (c .enum-told .given .1) (i .x) (i .n) (refusal .ensures) in
+    (r .place, r .slot)
 
 returns-2 : tie.Need-returns-2
-unfolding valueOf written packetOf
-returns-2 c = row-done _ _ (up _ _) _ _ _ (sym (c .before .before .up-refusal .ensures) ∙ c .before .if1 .left) refl refl (c .append .ensures)
+returns-2 c =
+    let at-told = c .before in
+    let at-refusal = at-told .before .before in
+    let i = at-refusal .before .before .args in
+    let refusal = at-refusal .up-refusal in
+    up-done (i .table .now) (i .queue) (refusal .result) (at-told .enum-told .given .1) (c .done .result .answer) (c .done .result .queue) (i .x) (i .n)
+    (refusal .ensures) (c .done .ensures .0) (c .done .ensures .1)
 
 pub up-spec : {M : Type 1} → statement M
 up-spec =
-    tie.close (tie.spec up-refusal-requires refused-by-requires returns append-requires returns-2)
+    tie.close
+    (tie.spec
+    up-refusal-requires
+    enum-known-asked
+    refused-requires
+    returns
+    enum-told
+    done-requires
+    returns-2)

@@ -11,24 +11,27 @@ tally-of-requires c κs = search needs
 tally-of-requires-2 : tie.Need-tally-of-requires-2
 tally-of-requires-2 c κs = search needs
 
-same-word-requires : tie.Need-same-word-requires
-same-word-requires c κs = search needs
+matched-requires : tie.Need-matched-requires
+matched-requires c κs = search needs
 
 first-free-requires : tie.Need-first-free-requires
 first-free-requires c κs = search needs
 
-cons-number-requires : tie.Need-cons-number-requires
-cons-number-requires c κs = search needs
+cons-tests-requires : tie.Need-cons-tests-requires
+cons-tests-requires c κs = search needs
 
 returns : tie.Need-returns
 returns c =
-    let i = c .before .before .before .before .before .before .args in
-    let x = c .before .before .before .before .tally-of in
-    let y = c .before .before .before .tally-of2 in
-    let s = c .before .before .same-word in
-    c .cons-number .ensures
-    ∙ ap (consNumber (x .result) (y .result) (s .result) (i .queue .count)) (c .before .first-free .ensures)
-    ∙ sym (cons-late (i .table .now) (i .queue) (i .x) (i .y) _ (x .result) (y .result) (s .result) (x .ensures .0) (y .ensures .0) (s .ensures .0))
+    let at-same = c .before .before in
+    let at-y = at-same .before in
+    let at-x = at-y .before in
+    let i = at-x .before .before .args in
+    let x = at-x .tally-of in
+    let y = at-y .tally-of2 in
+    let same = at-same .matched in
+    c .cons-tests .ensures
+    ∙ ap (consNumber (i .queue) (x .result) (y .result) (same .result)) (c .before .first-free .ensures)
+    ∙ sym (cons-late (i .table .now) (i .queue) (i .x) (i .y) _ (x .result) (y .result) (same .result) (x .ensures .0) (y .ensures .0) (same .ensures .0))
 
 pub cons-late-spec : {M : Type 1} → statement M
 cons-late-spec =
@@ -36,7 +39,7 @@ cons-late-spec =
     (tie.spec
     tally-of-requires
     tally-of-requires-2
-    same-word-requires
+    matched-requires
     first-free-requires
-    cons-number-requires
+    cons-tests-requires
     returns)

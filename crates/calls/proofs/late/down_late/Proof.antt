@@ -7,14 +7,15 @@ use Rattle.calls.proofs.late.down_late.Tie as tie
 tally-of-requires : tie.Need-tally-of-requires
 tally-of-requires c κs = search needs
 
-down-number-requires : tie.Need-down-number-requires
-down-number-requires c κs = search needs
+down-tests-requires : tie.Need-down-tests-requires
+down-tests-requires c κs = search needs
 
 returns : tie.Need-returns
 returns c =
-    let i = c .before .before .before .args in
+    let start = c .before .before .before in
+    let i = start .args in
     let x = c .before .tally-of in
-    c .down-number .ensures ∙ sym (down-late (i .table .now) (i .queue) (i .x) (i .n) (x .result) (c .before .before .before .pre .1) (c .before .before .before .pre .2) (x .ensures .0))
+    c .down-tests .ensures ∙ sym (down-late (i .table .now) (i .queue) (i .x) (i .n) (x .result) (start .pre .1) (start .pre .2) (x .ensures .0))
 
 pub down-late-spec : {M : Type 1} → statement M
-down-late-spec = tie.close (tie.spec tally-of-requires down-number-requires returns)
+down-late-spec = tie.close (tie.spec tally-of-requires down-tests-requires returns)

@@ -1,9 +1,5 @@
-use mathlib.Core.Path.{sym, ap, _∙_}
-use mathlib.Core.Logic.{⊎-elim}
 use borrow.Author.Needs.{needs}
-use Rattle.machine.specs.Table.{left, right}
-use Rattle.machine.specs.Packets.{kindOf}
-use Rattle.calls.proofs.LateLaws.{replace-late}
+use Rattle.calls.proofs.LateLaws.{replace-either}
 use Rattle.calls.proofs.late.replace_late.Statement.{statement}
 use Rattle.calls.proofs.late.replace_late.Tie as tie
 
@@ -13,28 +9,28 @@ tally-of-requires c κs = search needs
 tally-of-requires-2 : tie.Need-tally-of-requires-2
 tally-of-requires-2 c κs = search needs
 
-same-word-requires : tie.Need-same-word-requires
-same-word-requires c κs = search needs
+matched-requires : tie.Need-matched-requires
+matched-requires c κs = search needs
 
-same-word-requires-2 : tie.Need-same-word-requires-2
-same-word-requires-2 c κs = search needs
+matched-requires-2 : tie.Need-matched-requires-2
+matched-requires-2 c κs = search needs
 
-replace-number-requires : tie.Need-replace-number-requires
-replace-number-requires c κs = search needs
+replace-tests-requires : tie.Need-replace-tests-requires
+replace-tests-requires c κs = search needs
 
 returns : tie.Need-returns
-unfolding kindOf
 returns c =
-    let i = c .before .before .before .before .before .before .args in
-    let y = c .before .before .before .before .tally-of in
-    let x = c .before .before .before .tally-of2 in
-    let s = c .before .before .same-word in
-    let k = c .before .same-word2 in
-    c .replace-number .ensures
-    ∙ ⊎-elim
-    (λ e. sym (replace-late (i .table .now) (i .queue) (i .kind) left (i .y) (i .d) (i .x) (y .result) (x .result) (s .result) (k .result) (ap kindOf e) (y .ensures .0) (x .ensures .0) (s .ensures .0) (k .ensures .0)))
-    (λ e. sym (replace-late (i .table .now) (i .queue) (i .kind) right (i .y) (i .d) (i .x) (y .result) (x .result) (s .result) (k .result) (ap kindOf e) (y .ensures .0) (x .ensures .0) (s .ensures .0) (k .ensures .0)))
-    (c .before .before .before .before .before .before .pre .1)
+    let at-kept = c .before in
+    let at-same = at-kept .before in
+    let at-x = at-same .before in
+    let at-y = at-x .before in
+    let i = at-y .before .before .args in
+    let y = at-y .tally-of in
+    let x = at-x .tally-of2 in
+    let same = at-same .matched in
+    let kept = at-kept .matched2 in
+    replace-either (i .table .now) (i .queue) (i .y) (i .d) (i .x) (y .result) (x .result) (same .result) (kept .result) _
+    (y .ensures .0) (x .ensures .0) (same .ensures .0) (kept .ensures .0) (c .replace-tests .ensures)
 
 pub replace-late-spec : {M : Type 1} → statement M
 replace-late-spec =
@@ -42,7 +38,7 @@ replace-late-spec =
     (tie.spec
     tally-of-requires
     tally-of-requires-2
-    same-word-requires
-    same-word-requires-2
-    replace-number-requires
+    matched-requires
+    matched-requires-2
+    replace-tests-requires
     returns)

@@ -7,14 +7,15 @@ use Rattle.calls.proofs.late.up_late.Tie as tie
 tally-of-requires : tie.Need-tally-of-requires
 tally-of-requires c κs = search needs
 
-up-number-requires : tie.Need-up-number-requires
-up-number-requires c κs = search needs
+up-tests-requires : tie.Need-up-tests-requires
+up-tests-requires c κs = search needs
 
 returns : tie.Need-returns
 returns c =
-    let i = c .before .before .before .args in
+    let start = c .before .before .before in
+    let i = start .args in
     let x = c .before .tally-of in
-    c .up-number .ensures ∙ sym (up-late (i .table .now) (i .queue) (i .x) (i .n) (x .result) (c .before .before .before .pre .1) (x .ensures .0))
+    c .up-tests .ensures ∙ sym (up-late (i .table .now) (i .queue) (i .x) (i .n) (x .result) (start .pre .1) (x .ensures .0))
 
 pub up-late-spec : {M : Type 1} → statement M
-up-late-spec = tie.close (tie.spec tally-of-requires up-number-requires returns)
+up-late-spec = tie.close (tie.spec tally-of-requires up-tests-requires returns)

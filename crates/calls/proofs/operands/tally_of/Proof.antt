@@ -1,13 +1,14 @@
-use mathlib.Core.Path.{_≡_, sym, ap, _∙_}
-use mathlib.Core.Bool.{true, false}
-use Prim.Native.Nat.{ℕ}
+use mathlib.Core.Path.{_≡_}
+use mathlib.Core.Bool.{true}
 use native.Mathlib.Omega.{arith}
 use borrow.Author.Needs.{needs}
 use Rattle.machine.specs.Words.{isCell}
 use Rattle.machine.specs.Table.{capacity}
 use Rattle.machine.specs.Queue.{waiting}
+use Rattle.machine.specs.Packets.{root, cell}
 use Rattle.machine.proofs.Words.{cell-place, cell-number}
-use Rattle.calls.proofs.WordLaws.{tally-cell, tally-other}
+use Rattle.calls.proofs.EarlyLaws.{cellular}
+use Rattle.calls.proofs.TallyLaws.{counter-tally, counter-other}
 use Rattle.calls.proofs.operands.tally_of.Statement.{statement}
 use Rattle.calls.proofs.operands.tally_of.Tie as tie
 
@@ -19,51 +20,55 @@ is-cell-requires c κs = search needs
 
 -- what the test says of the table's own C
 a-cell : (c : tie.Then1) → isCell (capacity (c .before .before .before .before .args .table .now)) (c .before .before .before .before .args .w) ≡ true
-a-cell c =
-    ap (λ (n : ℕ). isCell n (c .before .before .before .before .args .w)) (sym (c .before .before .capacity-of .ensures)) ∙ sym (c .before .is-cell .ensures) ∙ c .if1 .taken
+a-cell c = cellular _ _ _ (c .before .before .capacity-of .ensures) (c .before .is-cell .ensures) (c .if1 .taken)
 
-not-a-cell : (c : tie.Else1) → isCell (capacity (c .before .before .before .before .args .table .now)) (c .before .before .before .before .args .w) ≡ false
-not-a-cell c =
-    ap (λ (n : ℕ). isCell n (c .before .before .before .before .args .w)) (sym (c .before .before .capacity-of .ensures)) ∙ sym (c .before .is-cell .ensures) ∙ c .if1 .left
-
-sub-place : tie.Need-sub-place
-sub-place c = omega (arith, cell-number _ _ (a-cell c))
+sub-index : tie.Need-sub-index
+sub-index c = omega (arith, cell-number _ _ (a-cell c))
 
 waiting-changes-requires : tie.Need-waiting-changes-requires
 waiting-changes-requires c κs = search needs
 
 root-count-requires : tie.Need-root-count-requires
-root-count-requires c κs = omega (arith, cell-place _ _ (a-cell (c .before)))
+root-count-requires c κs =
+    let table = c .before .before .before .before .before .pre .table in
+    omega (arith, cell-place _ _ (a-cell (c .before)))
+
+with-requires : tie.Need-with-requires
+with-requires c κs = search needs
 
 cell-count-requires : tie.Need-cell-count-requires
-cell-count-requires c κs = omega (arith, cell-place _ _ (a-cell (c .before .before)))
+cell-count-requires c κs =
+    let table = c .before .before .before .before .before .before .before .pre .table in
+    omega (arith, cell-place _ _ (a-cell (c .before .before .before)))
 
-cast-t11 : tie.Need-cast-t11
-cast-t11 c = search needs
-
-add-t12 : tie.Need-add-t12
-add-t12 c = search needs
-
-cast-t13 : tie.Need-cast-t13
-cast-t13 c = search needs
-
-add-t14 : tie.Need-add-t14
-add-t14 c = search needs
+with-requires-2 : tie.Need-with-requires-2
+with-requires-2 c κs = search needs
 
 returns : tie.Need-returns
 returns c =
-    let i = c .before .before .before .before .before .before .before .before .before .before .before .args in
-    let w = c .before .before .before .before .before .before .waiting-changes in
-    let n = w .ensures .1 in (
-      tally-cell (i .table .now) (waiting (i .queue)) (i .w) (c .before .before .before .before .before .root-count .result .0) (c .before .before .before .before .cell-count .result .0) (w .result)
-          (a-cell (c .before .before .before .before .before .before .before)) (c .before .before .before .before .before .root-count .ensures) (c .before .before .before .before .cell-count .ensures) (w .ensures .0),
-      search needs,
+    let at-sums = c .before .before .before .before in
+    let i = at-sums .before .before .before .before .before .args in
+    let t = i .table .now in
+    let ps = waiting (i .queue) in
+    let s = at-sums .waiting-changes .result in
+    let e = at-sums .waiting-changes .ensures .0 in
+    let held = c .before .before .with in
+    let pointers = c .with2 in
+    let w = a-cell (at-sums .before) in (
+      record {
+        held = counter-tally root 2 t ps (i .w) _ (s .held .raised) (s .held .lowered) _ _ w (c .before .before .before .root-count .ensures) (e .held) (held .ensures);
+        pointers = counter-tally cell 0 t ps (i .w) _ (s .pointers .raised) (s .pointers .lowered) _ _ w (c .before .cell-count .ensures) (e .pointers) (pointers .ensures);
+      },
+      record { held = held .ensures .few; pointers = pointers .ensures .few },
     )
 
 returns-2 : tie.Need-returns-2
 returns-2 c =
     let i = c .before .before .before .before .args in
-    (tally-other (i .table .now) (waiting (i .queue)) (i .w) (not-a-cell c), search needs)
+    let t = i .table .now in
+    let ps = waiting (i .queue) in
+    let w = cellular t _ (i .w) (c .before .before .capacity-of .ensures) (c .before .is-cell .ensures) (c .if1 .left) in
+    (record { held = counter-other root 2 t ps (i .w) w; pointers = counter-other cell 0 t ps (i .w) w }, search needs)
 
 pub tally-of-spec : {M : Type 1} → statement M
 tally-of-spec =
@@ -71,13 +76,11 @@ tally-of-spec =
     (tie.spec
     capacity-of-requires
     is-cell-requires
-    sub-place
+    sub-index
     waiting-changes-requires
     root-count-requires
+    with-requires
     cell-count-requires
-    cast-t11
-    add-t12
-    cast-t13
-    add-t14
+    with-requires-2
     returns
     returns-2)

@@ -1,50 +1,63 @@
-use mathlib.Core.Path.{_≡_, refl, sym, _∙_}
-use mathlib.Core.Bool.{true}
-use native.Mathlib.Omega.{arith}
 use borrow.Author.Needs.{needs}
-use Rattle.machine.specs.Words.{isCell}
-use Rattle.machine.specs.Table.{capacity}
-use Rattle.machine.proofs.Words.{cell-place, cell-number}
-use Rattle.calls.specs.Early.{wordsNumber}
-use Rattle.calls.proofs.EarlyLaws.{within, words-shape, cell-words, cell-is, early-first, late-first}
-use Rattle.calls.proofs.CallLaws.{read-back, replace-field, replace-kinds, replace-questions}
+use Rattle.calls.proofs.EarlyLaws.{Callable, cell-ready}
+use Rattle.calls.proofs.CallLaws.{replace-early, replace-whole}
 use Rattle.calls.proofs.refusals.replace_refusal.Statement.{statement}
 use Rattle.calls.proofs.refusals.replace_refusal.Tie as tie
 
-cell-number-requires : tie.Need-cell-number-requires
-cell-number-requires c κs = search needs
+cell-asked-requires : tie.Need-cell-asked-requires
+cell-asked-requires c κs = search needs
 
-words : (c : tie.Else1) → wordsNumber (c .before .before .before .args .table .now) (c .before .before .before .args .queue) 1 (c .before .before .before .args .x) (c .before .before .before .args .y) ≡ 0
-words c = cell-words _ _ _ _ _ (sym (c .before .cell-number .ensures) ∙ c .if1 .left)
+-- what the early questions' "yes" leaves
+accepted : (c : tie.After-enum-told2) → Callable (c .before .before .before .before .args .table .now) (c .before .before .before .before .args .queue) 1 (c .before .before .before .before .args .x)
+accepted c =
+    let at-early = c .before .before in
+    let i = at-early .before .before .args in
+    cell-ready (i .table .now) (i .queue) 1 (i .x) (i .y) (at-early .cell-asked .result) (c .enum-told2 .given .1) (at-early .cell-asked .ensures)
 
-a-cell : (c : tie.Else1) → isCell (capacity (c .before .before .before .args .table .now)) (c .before .before .before .args .x) ≡ true
-a-cell c = cell-is _ _ _ _ _ (sym (c .before .cell-number .ensures) ∙ c .if1 .left)
+enum-told : tie.Need-enum-told
+enum-told c = search needs
 
 returns : tie.Need-returns
 returns c =
-    let i = c .before .before .before .args in
-    early-first _ _ _ _ (replace-questions (i .table .now) (i .queue) (i .k) (i .kind) (i .x) (i .y) _ (c .before .before .before .pre) refl) (c .before .cell-number .ensures) (c .if1 .taken)
+    let at-early = c .before .before in
+    let start = at-early .before .before in
+    let i = start .args in
+    let early = at-early .cell-asked in
+    replace-early (i .table .now) (i .queue) (i .k) (i .x) (i .y) (early .result) (c .enum-told .given .0 .0) (start .pre) (early .ensures) (c .enum-told .given .1)
+
+enum-told-2 : tie.Need-enum-told-2
+enum-told-2 c = search needs
 
 sub-field : tie.Need-sub-field
-sub-field c = omega (arith, cell-number _ _ (a-cell c))
+sub-field c = accepted c .first
 
 field-requires : tie.Need-field-requires
-field-requires c κs = (omega (arith, cell-place _ _ (a-cell c), words-shape _ _ _ _ _ (words c) .room), replace-field _ _ (c .before .before .before .pre))
+field-requires c κs = (accepted c .inside, c .before .before .before .before .pre)
 
 replace-late-requires : tie.Need-replace-late-requires
-replace-late-requires c κs = (within _ _ (words-shape _ _ _ _ _ (words (c .before))), replace-kinds _ _ (c .before .before .before .before .pre))
+replace-late-requires c κs = accepted (c .before) .shape
 
 returns-2 : tie.Need-returns-2
 returns-2 c =
-    let i = c .before .before .before .before .before .args in
-    late-first _ _ _ _ _ (replace-questions (i .table .now) (i .queue) (i .k) (i .kind) (i .x) (i .y) _ (c .before .before .before .before .before .pre) (read-back _ _ _ _ (c .before .field .ensures))) (c .before .before .before .cell-number .ensures) (c .before .before .if1 .left) (c .replace-late .ensures)
+    let at-field = c .before in
+    let at-told = at-field .before in
+    let at-early = at-told .before .before in
+    let start = at-early .before .before in
+    let i = start .args in
+    let d = at-field .field in
+    let early = at-early .cell-asked in
+    let late = c .replace-late in
+    replace-whole (i .table .now) (i .queue) (i .k) (i .x) (i .y) (d .result) (early .result) (late .result) (start .pre) (d .ensures)
+    (early .ensures) (at-told .enum-told2 .given .1) (late .ensures)
 
 pub replace-refusal-spec : {M : Type 1} → statement M
 replace-refusal-spec =
     tie.close
     (tie.spec
-    cell-number-requires
+    cell-asked-requires
+    enum-told
     returns
+    enum-told-2
     sub-field
     field-requires
     replace-late-requires

@@ -1,29 +1,42 @@
-use mathlib.Core.Path.{_≡_, sym, _∙_}
 use borrow.Author.Needs.{needs}
-use Rattle.calls.specs.Early.{wordsNumber}
-use Rattle.calls.proofs.EarlyLaws.{within, words-shape, cell-words, cell-is, early-first, late-first}
-use Rattle.calls.proofs.CallLaws.{up-questions}
+use Rattle.calls.proofs.EarlyLaws.{cell-ready}
+use Rattle.calls.proofs.CallLaws.{up-early, up-whole}
 use Rattle.calls.proofs.refusals.up_refusal.Statement.{statement}
 use Rattle.calls.proofs.refusals.up_refusal.Tie as tie
 
-cell-number-requires : tie.Need-cell-number-requires
-cell-number-requires c κs = search needs
+cell-asked-requires : tie.Need-cell-asked-requires
+cell-asked-requires c κs = search needs
 
-words : (c : tie.Else1) → wordsNumber (c .before .before .before .args .table .now) (c .before .before .before .args .queue) (c .before .before .before .args .n) (c .before .before .before .args .x) 0 ≡ 0
-words c = cell-words _ _ _ _ _ (sym (c .before .cell-number .ensures) ∙ c .if1 .left)
+enum-told : tie.Need-enum-told
+enum-told c = search needs
 
 returns : tie.Need-returns
 returns c =
-    let i = c .before .before .before .args in
-    early-first _ _ _ _ (up-questions (i .table .now) (i .queue) (i .x) (i .n)) (c .before .cell-number .ensures) (c .if1 .taken)
+    let at-early = c .before .before in
+    let i = at-early .before .before .args in
+    let early = at-early .cell-asked in
+    up-early (i .table .now) (i .queue) (i .x) (i .n) (early .result) (c .enum-told .given .0 .0) (early .ensures) (c .enum-told .given .1)
+
+enum-told-2 : tie.Need-enum-told-2
+enum-told-2 c = search needs
 
 up-late-requires : tie.Need-up-late-requires
-up-late-requires c κs = (within _ _ (words-shape _ _ _ _ _ (words c)), cell-is _ _ _ _ _ (sym (c .before .cell-number .ensures) ∙ c .if1 .left))
+up-late-requires c κs =
+    let at-early = c .before .before in
+    let i = at-early .before .before .args in
+    let a = cell-ready (i .table .now) (i .queue) (i .n) (i .x) 0 (at-early .cell-asked .result) (c .enum-told2 .given .1) (at-early .cell-asked .ensures) in
+    (a .shape, a .cell)
 
 returns-2 : tie.Need-returns-2
 returns-2 c =
-    let i = c .before .before .before .before .args in
-    late-first _ _ _ _ _ (up-questions (i .table .now) (i .queue) (i .x) (i .n)) (c .before .before .cell-number .ensures) (c .before .if1 .left) (c .up-late .ensures)
+    let at-told = c .before in
+    let at-early = at-told .before .before in
+    let i = at-early .before .before .args in
+    let early = at-early .cell-asked in
+    let late = c .up-late in
+    up-whole (i .table .now) (i .queue) (i .x) (i .n) (early .result) (late .result) (early .ensures) (at-told .enum-told2 .given .1) (late .ensures)
 
 pub up-refusal-spec : {M : Type 1} → statement M
-up-refusal-spec = tie.close (tie.spec cell-number-requires returns up-late-requires returns-2)
+up-refusal-spec =
+    tie.close
+    (tie.spec cell-asked-requires enum-told returns enum-told-2 up-late-requires returns-2)
