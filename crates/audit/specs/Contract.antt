@@ -12,7 +12,7 @@ use Rattle.machine.specs.Machine.{machine}
 use Rattle.machine.specs.Questions.{firstNo}
 use Rattle.machine.specs.Queue.{slots}
 use Rattle.machine.specs.Table.{capacity}
-use Rattle.audit.specs.Room.{Room}
+use Rattle.machine.specs.Facts.{TableShape}
 
 -- past questions 1 and 2
 pub record Asked (t : List ℕ) (q : Queue) (s : List ℕ) : Type 0 where

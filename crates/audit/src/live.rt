@@ -8,13 +8,13 @@ ghost use Rattle.machine.specs.Range.{every};
 ghost use Rattle.machine.specs.Table.{capacity};
 ghost use Rattle.machine.specs.Queue.{waiting};
 ghost use Rattle.machine.specs.Audit.{allReached};
-ghost use Rattle.audit.specs.Room.{Room};
+ghost use Rattle.machine.specs.Facts.{TableShape};
 ghost use Rattle.audit.specs.Contract.{Asked};
-ghost use Rattle.audit.specs.Stages.{Audits};
+ghost use Rattle.audit_pointers.specs.Undo.{Audits};
 ghost use Rattle.audit.specs.Live.{freeOrMarked};
 
 fn free_or_marked(table: &[u16], scratch: &[u16], place: usize) -> bool
-    requires { ⌜ Room (now table) × (place < capacity (now table)) × (place < length (now scratch)) ⌝ }
+    requires { ⌜ TableShape (now table) × (place < capacity (now table)) × (place < length (now scratch)) ⌝ }
     ensures { λ r. ⌜ r ≡ freeOrMarked (now (table .entry)) (now (scratch .entry)) place ⌝ }
 {
     if cells::in_use(table, place) {
@@ -24,7 +24,7 @@ fn free_or_marked(table: &[u16], scratch: &[u16], place: usize) -> bool
 }
 
 fn used_marked(table: &[u16], scratch: &[u16]) -> bool
-    requires { ⌜ Room (now table) × (capacity (now table) ≤ length (now scratch)) ⌝ }
+    requires { ⌜ TableShape (now table) × (capacity (now table) ≤ length (now scratch)) ⌝ }
     ensures { λ r. ⌜ r ≡ every (capacity (now (table .entry))) (freeOrMarked (now (table .entry)) (now (scratch .entry))) ⌝ }
 {
     let c = cells::capacity_of(table) as usize;

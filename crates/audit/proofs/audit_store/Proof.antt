@@ -3,8 +3,8 @@ use borrow.Author.Needs.{needs}
 use Rattle.machine.specs.declared.Refusal.{Refusal}
 use Rattle.machine.specs.declared.Refusal
 use Rattle.machine.proofs.Questions.{shape-is}
-use Rattle.audit.proofs.Rules.{refused-1, refused-2, accepted-audit, asked, audited-refused, audited-judged}
-use Rattle.audit.proofs.Tests.{passed, failed}
+use Rattle.audit.proofs.Verdict.{refused-1, refused-2, accepted-audit, asked, audited-refused, audited-judged}
+use Rattle.audit_cells.proofs.Tests.{passed, failed}
 use Rattle.audit.proofs.audit_store.Statement.{statement}
 use Rattle.audit.proofs.audit_store.Tie as tie
 

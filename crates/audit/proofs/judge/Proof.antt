@@ -2,8 +2,8 @@ use mathlib.Core.Path.{refl, _∙_}
 use borrow.Author.Needs.{needs}
 use Rattle.machine.specs.declared.Rule.{Rule}
 use Rattle.machine.specs.declared.Rule
-use Rattle.audit.proofs.Rules.{packets-legal, broken-1, broken-2, broken-3, broken-4, broken-5, none-broken, judged-broken, judged-sound}
-use Rattle.audit.proofs.Tests.{passed, failed}
+use Rattle.audit.proofs.Verdict.{packets-legal, broken-1, broken-2, broken-3, broken-4, broken-5, none-broken, judged-broken, judged-sound}
+use Rattle.audit_cells.proofs.Tests.{passed, failed}
 use Rattle.audit.proofs.judge.Statement.{statement}
 use Rattle.audit.proofs.judge.Tie as tie
 

@@ -1,7 +1,7 @@
 use mathlib.Core.Path.{_∙_}
 use borrow.Author.Needs.{needs}
 use Rattle.machine.specs.Queue.{waiting}
-use Rattle.audit.proofs.Rules.{marked-live}
+use Rattle.audit.proofs.Verdict.{marked-live}
 use Rattle.audit.proofs.live.all_reached.Statement.{statement}
 use Rattle.audit.proofs.live.all_reached.Tie as tie
 

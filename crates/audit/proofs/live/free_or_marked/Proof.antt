@@ -1,6 +1,6 @@
 use mathlib.Core.Path.{sym, _∙_}
 use borrow.Author.Needs.{needs}
-use Rattle.audit.proofs.Rules.{marked-used, free-marked}
+use Rattle.audit.proofs.Verdict.{marked-used, free-marked}
 use Rattle.audit.proofs.live.free_or_marked.Statement.{statement}
 use Rattle.audit.proofs.live.free_or_marked.Tie as tie
 

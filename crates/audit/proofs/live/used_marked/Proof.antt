@@ -6,7 +6,7 @@ use borrow.Author.Needs.{needs}
 use Rattle.machine.specs.Range.{every}
 use Rattle.machine.specs.Table.{capacity}
 use Rattle.audit.specs.Live.{freeOrMarked}
-use Rattle.audit.proofs.Tests.{passed, failed, every-none, every-more, every-fails}
+use Rattle.audit_cells.proofs.Tests.{passed, failed, every-none, every-more, every-fails}
 use Rattle.audit.proofs.live.used_marked.Statement.{statement}
 use Rattle.audit.proofs.live.used_marked.Tie as tie
 
