@@ -1,0 +1,116 @@
+use mathlib.Core.Path.{_≡_, refl}
+use Prim.Native.Nat.{_-_, _≤_, _<_}
+use native.Mathlib.Omega.{arith}
+use lib.ListN.{length}
+use borrow.Author.Needs.{needs}
+use Rattle.marks.specs.Stack.{stack, pushedNamed, Pushes}
+use Rattle.machine.specs.Queue.{slots, slot, packetsFrom, waiting}
+use Rattle.marks.proofs.Loops.{named-start, named-push}
+use Rattle.marks.proofs.pending.push_named.Statement.{statement}
+use Rattle.marks.proofs.pending.push_named.Tie as tie
+
+abbrev Inv-loop : tie.InvT-loop
+Inv-loop scratch₀ c first queue place count top₀ i₀ scratch top i =
+    (i ≤ count)
+    × (count ≤ slots)
+    × (place < slots)
+    × (length scratch ≡ length scratch₀)
+    × Pushes c (stack scratch top) (pushedNamed c (packetsFrom queue place i) (stack scratch₀ first))
+
+abbrev μ-loop : tie.MeasureT-loop
+μ-loop scratch₀ c first queue place count top₀ i₀ scratch top i = count - i
+
+loop-holds : tie.Need-loop-holds Inv-loop μ-loop
+loop-holds c = let s = c .before in
+    let q = s .args .t1 in
+    (omega arith, s .pre .1, s .pre .0, refl, named-start (s .args .c) q (q .place) (stack (s .args .scratch .now) (s .args .first)) (s .pre .4))
+
+add-j : tie.Need-add-j Inv-loop μ-loop
+add-j c = search needs
+
+cast-j : tie.Need-cast-j Inv-loop μ-loop
+cast-j c = search needs
+
+mul-push-names : tie.Need-mul-push-names Inv-loop μ-loop
+mul-push-names c = search needs
+
+element-copy-out-push-names : tie.Need-element-copy-out-push-names Inv-loop μ-loop
+element-copy-out-push-names c = search needs
+
+mul-push-names-2 : tie.Need-mul-push-names-2 Inv-loop μ-loop
+mul-push-names-2 c = search needs
+
+element-copy-out-push-names-2 : tie.Need-element-copy-out-push-names-2 Inv-loop μ-loop
+element-copy-out-push-names-2 c = search needs
+
+mul-push-names-3 : tie.Need-mul-push-names-3 Inv-loop μ-loop
+mul-push-names-3 c = search needs
+
+element-copy-out-push-names-3 : tie.Need-element-copy-out-push-names-3 Inv-loop μ-loop
+element-copy-out-push-names-3 c = search needs
+
+mul-push-names-4 : tie.Need-mul-push-names-4 Inv-loop μ-loop
+mul-push-names-4 c = search needs
+
+element-copy-out-push-names-4 : tie.Need-element-copy-out-push-names-4 Inv-loop μ-loop
+element-copy-out-push-names-4 c = search needs
+
+push-names-requires : tie.Need-push-names-requires Inv-loop μ-loop
+push-names-requires c κs = search needs
+
+add-i : tie.Need-add-i Inv-loop μ-loop
+add-i c = search needs
+
+loop-less : tie.Need-loop-less Inv-loop μ-loop
+loop-less c = search needs
+
+loop-again : tie.Need-loop-again Inv-loop μ-loop
+unfolding slot
+loop-again c =
+    let at-loop = c .before .before .before .before .before .before .before .before .before in
+    let s = at-loop .before .before in
+    let l = at-loop .loop in
+    let q = s .args .t1 in
+    let v = l .inv in (
+      omega arith,
+      v .1,
+      v .2,
+      omega arith,
+      named-push (s .args .c) q (q .place) (l .i) (stack (s .args .scratch .now) (s .args .first)) (stack (l .scratch) (l .top)) _ (v .4)
+          (c .before .before .push-names .ensures),
+    )
+
+same-length : tie.Need-same-length Inv-loop μ-loop
+same-length c = search needs
+
+returns : tie.Need-returns Inv-loop μ-loop
+unfolding waiting
+returns c =
+    let l = c .before .loop in
+    let q = c .before .before .before .args .t1 in
+    let e : l .i ≡ q .count = omega arith in
+    rw e at (l .inv .4)
+
+pub push-named-spec : {M : Type 1} → statement M
+push-named-spec =
+    tie.close
+    (tie.spec
+    Inv-loop
+    μ-loop
+    loop-holds
+    add-j
+    cast-j
+    mul-push-names
+    element-copy-out-push-names
+    mul-push-names-2
+    element-copy-out-push-names-2
+    mul-push-names-3
+    element-copy-out-push-names-3
+    mul-push-names-4
+    element-copy-out-push-names-4
+    push-names-requires
+    add-i
+    loop-less
+    loop-again
+    same-length
+    returns)

@@ -1,0 +1,4 @@
+-- Marks and roots, and what the functions that mark compute.
+pub mod Names
+pub mod Marks
+pub mod Stack
