@@ -9,64 +9,69 @@ use Rattle.machine.specs.declared.Queue.{Queue}
 use Rattle.machine.specs.Queue.{Packet, slots, slot, packetsFrom}
 use Rattle.machine.specs.Packets.{Counter, root, cell, Direction, plus, minus, Kind, reads, makes, replaces, raises, lowers, unknown, kindOf, changesOf, changes, movedBy, waitingChange}
 use Rattle.machine.proofs.Ring.{packets-snoc}
+use Rattle.machine.proofs.Lists.{waiting-snoc}
 use Rattle.queue.specs.declared.Sums.{Sums}
-use Rattle.queue.specs.Sums.{SumsOf, Bounded, Added}
+use Rattle.queue.specs.Sums.{largestWord, CounterSums, SumsOf, AtMost, Bounded, CounterAdded, Added}
 
-abbrev Moved : Sums → Sums → Kind → ℕ → ℕ → ℕ → Type 0
-Moved s r k a b x =
-    (r .rootplus ≡ s .rootplus + movedBy root plus x (changesOf k a b))
-    × (r .rootminus ≡ s .rootminus + movedBy root minus x (changesOf k a b))
-    × (r .cellplus ≡ s .cellplus + movedBy cell plus x (changesOf k a b))
-    × (r .cellminus ≡ s .cellminus + movedBy cell minus x (changesOf k a b))
+-- one packet's changes of the counter c, by its kind
+abbrev Moved : Counter → Kind → ℕ → ℕ → ℕ → ℕ → ℕ → ℕ → ℕ → Type 0
+Moved c k a b x r l r′ l′ = (r′ ≡ r + movedBy c plus x (changesOf k a b)) × (l′ ≡ l + movedBy c minus x (changesOf k a b))
 
-abbrev Small : Kind → ℕ → ℕ → ℕ → Type 0
-Small k a b x =
-    (movedBy root plus x (changesOf k a b) ≤ 65535)
-    × (movedBy root minus x (changesOf k a b) ≤ 65535)
-    × (movedBy cell plus x (changesOf k a b) ≤ 65535)
-    × (movedBy cell minus x (changesOf k a b) ≤ 65535)
+abbrev Small : Counter → Kind → ℕ → ℕ → ℕ → Type 0
+Small c k a b x = (movedBy c plus x (changesOf k a b) ≤ largestWord) × (movedBy c minus x (changesOf k a b) ≤ largestWord)
 
-pub added : (s r : Sums) (kind a b x : ℕ) (k : Kind) → kindOf kind ≡ k → Moved s r k a b x → Small k a b x → Added s kind a b x r
-added s r kind a b x k e m l = record {
-  rootplus = rw e (m .0);
-  rootminus = rw e (m .1);
-  cellplus = rw e (m .2);
-  cellminus = rw e (m .3);
-  few = λ n h. record {
-    rootplus = omega (arith, m .0, l .0, h .rootplus);
-    rootminus = omega (arith, m .1, l .1, h .rootminus);
-    cellplus = omega (arith, m .2, l .2, h .cellplus);
-    cellminus = omega (arith, m .3, l .3, h .cellminus);
-  };
-}
+module _ (c : Counter) (a b x : ℕ) (k : Kind) (r l r′ l′ : ℕ) (m : Moved c k a b x r l r′ l′) where
+  counter-added : (kind : ℕ) → kindOf kind ≡ k → CounterAdded c kind a b x r l r′ l′
+  counter-added kind e = record { raised = rw e (m .0); lowered = rw e (m .1) }
+
+  counter-few : Small c k a b x → (n : ℕ) → AtMost n r l → AtMost (n + 1) r′ l′
+  counter-few f n h = record { raised = omega (arith, m .0, f .0, h .raised); lowered = omega (arith, m .1, f .1, h .lowered) }
+
+module _ (s s′ : Sums) (kind a b x : ℕ) (k : Kind) where
+  abbrev HeldMoved : Type 0
+  HeldMoved = Moved root k a b x (s .held .raised) (s .held .lowered) (s′ .held .raised) (s′ .held .lowered)
+
+  abbrev PointersMoved : Type 0
+  PointersMoved = Moved cell k a b x (s .pointers .raised) (s .pointers .lowered) (s′ .pointers .raised) (s′ .pointers .lowered)
+
+  pub added : kindOf kind ≡ k → HeldMoved → PointersMoved → Small root k a b x → Small cell k a b x → Added s kind a b x s′
+  added e h p f g = record {
+    held = counter-added root a b x k (s .held .raised) (s .held .lowered) (s′ .held .raised) (s′ .held .lowered) h kind e;
+    pointers = counter-added cell a b x k (s .pointers .raised) (s .pointers .lowered) (s′ .pointers .raised) (s′ .pointers .lowered) p kind e;
+    few = λ n t. record {
+      held = counter-few root a b x k (s .held .raised) (s .held .lowered) (s′ .held .raised) (s′ .held .lowered) h f n (t .held);
+      pointers = counter-few cell a b x k (s .pointers .raised) (s .pointers .lowered) (s′ .pointers .raised) (s′ .pointers .lowered) p g n (t .pointers);
+    };
+  }
 
 -- a number that is no kind
 pub kind-unknown : (k : ℕ) → (k ≡ 1 → ⊥) → (k ≡ 2 → ⊥) → (k ≡ 3 → ⊥) → (k ≡ 4 → ⊥) → (k ≡ 5 → ⊥) → (k ≡ 6 → ⊥) → kindOf k ≡ unknown
 unfolding kindOf
 kind-unknown k a b c d e f = simp (ne-eqb k 1 a, ne-eqb k 2 b, ne-eqb k 3 c, ne-eqb k 4 d, ne-eqb k 5 e, ne-eqb k 6 f)
 
--- one packet more
-pub waiting-snoc : (k : Counter) (d : Direction) (x : ℕ) (ps : List Packet) (p : Packet) → waitingChange k d x (ps ++ (p ∷ [])) ≡ waitingChange k d x ps + movedBy k d x (changes p)
-unfolding waitingChange
-waiting-snoc k d x [] p = omega arith
-waiting-snoc k d x (r ∷ ps) p = rw (waiting-snoc k d x ps p) (omega arith)
-
-pub sums-none : (q : Queue) (j x : ℕ) → SumsOf (packetsFrom q j zero) x (record { rootplus = 0; rootminus = 0; cellplus = 0; cellminus = 0 })
+-- no packets, and one packet more
+pub sums-none : (q : Queue) (j x : ℕ)
+    → SumsOf (packetsFrom q j zero) x (record { held = record { raised = 0; lowered = 0 }; pointers = record { raised = 0; lowered = 0 } })
 unfolding packetsFrom waitingChange
-sums-none q j x = record { rootplus = refl; rootminus = refl; cellplus = refl; cellminus = refl }
+sums-none q j x = record { held = record { raised = refl; lowered = refl }; pointers = record { raised = refl; lowered = refl } }
 
-pub sums-more : (q : Queue) (j n x : ℕ) (s r : Sums) → SumsOf (packetsFrom q j n) x s
-    → Added s (slot q ((j + n) % slots) .kind) (slot q ((j + n) % slots) .a) (slot q ((j + n) % slots) .b) x r → SumsOf (packetsFrom q j (n + 1)) x r
-unfolding changes
-sums-more q j n x s r h d = record {
-  rootplus = d .rootplus ∙ ap (_+ movedBy root plus x (changes p)) (h .rootplus) ∙ sym (step root plus);
-  rootminus = d .rootminus ∙ ap (_+ movedBy root minus x (changes p)) (h .rootminus) ∙ sym (step root minus);
-  cellplus = d .cellplus ∙ ap (_+ movedBy cell plus x (changes p)) (h .cellplus) ∙ sym (step cell plus);
-  cellminus = d .cellminus ∙ ap (_+ movedBy cell minus x (changes p)) (h .cellminus) ∙ sym (step cell minus);
-}
-  where
-    p : Packet
-    p = slot q ((j + n) % slots)
+module _ (q : Queue) (j n x : ℕ) where
+  abbrev newest : Packet
+  newest = slot q ((j + n) % slots)
 
-    step : (k : Counter) (o : Direction) → waitingChange k o x (packetsFrom q j (n + 1)) ≡ waitingChange k o x (packetsFrom q j n) + movedBy k o x (changes p)
-    step k o = ap (waitingChange k o x) (ap (packetsFrom q j) (add-one n) ∙ packets-snoc q j n) ∙ waiting-snoc k o x (packetsFrom q j n) p
+  step : (k : Counter) (o : Direction) → waitingChange k o x (packetsFrom q j (n + 1)) ≡ waitingChange k o x (packetsFrom q j n) + movedBy k o x (changes newest)
+  step k o = ap (waitingChange k o x) (ap (packetsFrom q j) (add-one n) ∙ packets-snoc q j n) ∙ waiting-snoc k o x (packetsFrom q j n) newest
+
+  counter-more : (k : Counter) (r l r′ l′ : ℕ) → CounterSums k (packetsFrom q j n) x r l
+      → CounterAdded k (newest .kind) (newest .a) (newest .b) x r l r′ l′ → CounterSums k (packetsFrom q j (n + 1)) x r′ l′
+  unfolding changes
+  counter-more k r l r′ l′ h d = record {
+    raised = d .raised ∙ ap (_+ movedBy k plus x (changes newest)) (h .raised) ∙ sym (step k plus);
+    lowered = d .lowered ∙ ap (_+ movedBy k minus x (changes newest)) (h .lowered) ∙ sym (step k minus);
+  }
+
+  pub sums-more : (s s′ : Sums) → SumsOf (packetsFrom q j n) x s → Added s (newest .kind) (newest .a) (newest .b) x s′ → SumsOf (packetsFrom q j (n + 1)) x s′
+  sums-more s s′ h d = record {
+    held = counter-more root (s .held .raised) (s .held .lowered) (s′ .held .raised) (s′ .held .lowered) (h .held) (d .held);
+    pointers = counter-more cell (s .pointers .raised) (s .pointers .lowered) (s′ .pointers .raised) (s′ .pointers .lowered) (h .pointers) (d .pointers);
+  }

@@ -1,10 +1,12 @@
 // The packet queue: append, the oldest packet, take, and the sums of waiting changes of one cell.
+use machine::CellCount;
 use machine::Queue;
+use machine::RootCount;
 ghost use mathlib.Core.Path.{_≡_};
-ghost use Prim.Native.Nat.{_+_, _%_, _<_, _≤_};
+ghost use Prim.Native.Nat.{suc, _+_, _%_, _<_, _≤_};
 ghost use Rattle.machine.specs.Range.{matching};
 ghost use Rattle.machine.specs.Queue.{packet, slots, slot, appended, taken, waiting};
-ghost use Rattle.queue.specs.Sums.{packetOf, Bounded, Added, SumsOf};
+ghost use Rattle.queue.specs.Sums.{largestWord, packetOf, AtMost, WithCount, atLeast, atMostCeiling, Bounded, Added, SumsOf};
 
 // What a slot holds.
 pub struct Packet {
@@ -37,12 +39,72 @@ pub fn slot_after(place: u16, i: u16) -> usize
     ((place + i) % Queue::SLOTS) as usize
 }
 
-// Waiting changes of one cell: by how much its root count and its cell count are to be raised and lowered.
+// By how much a root count is to be raised and lowered; with the root count added, the held count is the difference.
+pub struct HeldSums {
+    pub raised: u32,
+    pub lowered: u32,
+}
+
+impl HeldSums {
+    // With the root count itself.
+    pub fn with(self, count: RootCount) -> HeldSums
+        requires { ⌜ AtMost slots (self .raised) (self .lowered) ⌝ }
+        ensures { λ r. ⌜ WithCount (count .0) (self .raised) (self .lowered) (r .raised) (r .lowered) ⌝ }
+    {
+        HeldSums {
+            raised: (count.0 as u32) + self.raised,
+            lowered: self.lowered,
+        }
+    }
+
+    // Question 6: held n times or more.
+    pub fn at_least(self, n: u32) -> bool
+        requires { ⌜ AtMost (suc slots) (self .raised) (self .lowered) × (n ≤ largestWord) ⌝ }
+        ensures { λ r. ⌜ r ≡ atLeast (self .raised) (self .lowered) n ⌝ }
+    {
+        self.lowered + n <= self.raised
+    }
+
+    // Question 9: held at most 4,095 times after so many further raises and lowerings.
+    pub fn within(self, more: u32, less: u32) -> bool
+        requires { ⌜ AtMost (suc slots) (self .raised) (self .lowered) × (more ≤ largestWord) × (less ≤ largestWord) ⌝ }
+        ensures { λ r. ⌜ r ≡ atMostCeiling (self .raised + more) (self .lowered + less) ⌝ }
+    {
+        self.raised + more <= (RootCount::CEILING as u32) + (self.lowered + less)
+    }
+}
+
+// By how much a cell count is to be raised and lowered; with the cell count added, the pointers are the difference.
+pub struct PointerSums {
+    pub raised: u32,
+    pub lowered: u32,
+}
+
+impl PointerSums {
+    // With the cell count itself.
+    pub fn with(self, count: CellCount) -> PointerSums
+        requires { ⌜ AtMost slots (self .raised) (self .lowered) ⌝ }
+        ensures { λ r. ⌜ WithCount (count .0) (self .raised) (self .lowered) (r .raised) (r .lowered) ⌝ }
+    {
+        PointerSums {
+            raised: (count.0 as u32) + self.raised,
+            lowered: self.lowered,
+        }
+    }
+
+    // Question 10: at most 4,095 pointers after so many further raises and lowerings.
+    pub fn within(self, more: u32, less: u32) -> bool
+        requires { ⌜ AtMost (suc slots) (self .raised) (self .lowered) × (more ≤ largestWord) × (less ≤ largestWord) ⌝ }
+        ensures { λ r. ⌜ r ≡ atMostCeiling (self .raised + more) (self .lowered + less) ⌝ }
+    {
+        self.raised + more <= (CellCount::CEILING as u32) + (self.lowered + less)
+    }
+}
+
+// Waiting changes of one cell.
 pub struct Sums {
-    pub rootplus: u32,
-    pub rootminus: u32,
-    pub cellplus: u32,
-    pub cellminus: u32,
+    pub held: HeldSums,
+    pub pointers: PointerSums,
 }
 
 pub fn append(queue: Queue, p: Packet) -> Queue
@@ -107,35 +169,31 @@ fn with_changes(s: Sums, kind: u16, a: u16, b: u16, x: u16) -> Sums
     requires { ⌜ Bounded 63 s ⌝ }
     ensures { λ r. ⌜ Added s kind a b x r ⌝ }
 {
-    let mut r = s;
+    let mut held = s.held;
+    let mut pointers = s.pointers;
     match kind {
         Packet::READ => {
-            r.rootminus = s.rootminus + matched(a, x, 1);
-            r.rootplus = s.rootplus + matched(b, x, 1);
-            r
+            held.lowered += matched(a, x, 1);
+            held.raised += matched(b, x, 1);
         }
         Packet::CONS => {
             let both = matched(a, x, 1) + matched(b, x, 1);
-            r.rootminus = s.rootminus + both;
-            r.cellplus = s.cellplus + both;
-            r
+            held.lowered += both;
+            pointers.raised += both;
         }
         Packet::REPLACE_LEFT | Packet::REPLACE_RIGHT => {
             let put = matched(a, x, 1);
-            r.rootminus = s.rootminus + put;
-            r.cellplus = s.cellplus + put;
-            r.cellminus = s.cellminus + matched(b, x, 1);
-            r
+            held.lowered += put;
+            pointers.raised += put;
+            pointers.lowered += matched(b, x, 1);
         }
-        Packet::UP => {
-            r.rootplus = s.rootplus + matched(a, x, b);
-            r
-        }
-        Packet::DOWN => {
-            r.rootminus = s.rootminus + matched(a, x, b);
-            r
-        }
-        _ => r,
+        Packet::UP => held.raised += matched(a, x, b),
+        Packet::DOWN => held.lowered += matched(a, x, b),
+        _ => {}
+    }
+    Sums {
+        held: held,
+        pointers: pointers,
     }
 }
 
@@ -148,14 +206,18 @@ pub fn waiting_changes(queue: Queue, x: u16) -> Sums
     let place = queue.place;
     let count = queue.count;
     let mut s = Sums {
-        rootplus: 0,
-        rootminus: 0,
-        cellplus: 0,
-        cellminus: 0,
+        held: HeldSums {
+            raised: 0,
+            lowered: 0,
+        },
+        pointers: PointerSums {
+            raised: 0,
+            lowered: 0,
+        },
     };
     let mut i: u16 = 0;
     while i < count {
-        let j = ((place + i) % Queue::SLOTS) as usize;
+        let j = slot_after(place, i);
         s = with_changes(s, queue.kinds[j], queue.a[j], queue.b[j], x);
         i += 1;
     }

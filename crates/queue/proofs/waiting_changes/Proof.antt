@@ -19,11 +19,8 @@ loop-holds : tie.Need-loop-holds Inv-loop μ-loop
 loop-holds c =
     (omega arith, c .pre .1, c .pre .0, sums-none (c .args .t1) (c .args .t1 .place) (c .args .x), omega arith)
 
-add-j : tie.Need-add-j Inv-loop μ-loop
-add-j c = search needs
-
-cast-j : tie.Need-cast-j Inv-loop μ-loop
-cast-j c = search needs
+slot-after-requires : tie.Need-slot-after-requires Inv-loop μ-loop
+slot-after-requires c κs = search needs
 
 mul-with-changes : tie.Need-mul-with-changes Inv-loop μ-loop
 mul-with-changes c = search needs
@@ -55,13 +52,14 @@ loop-less c = search needs
 loop-again : tie.Need-loop-again Inv-loop μ-loop
 unfolding slot
 loop-again c =
-    let l = c .before .before .before .before .before .loop in
-    let q = c .before .before .before .before .before .before .args .t1 in
-    let x = c .before .before .before .before .before .before .args .x in (
+    let at-loop = c .before .before .before .before .before .before in
+    let l = at-loop .loop in
+    let i = at-loop .before .args in
+    let q = i .t1 in (
       omega arith,
       l .inv .1,
       l .inv .2,
-      sums-more q (q .place) (l .i) x (l .s) (c .with-changes .result) (l .inv .3) (c .with-changes .ensures),
+      sums-more q (q .place) (l .i) (i .x) (l .s) (c .with-changes .result) (l .inv .3) (rw (c .before .before .before .before .slot-after .ensures .0) at (c .with-changes .ensures)),
       c .with-changes .ensures .few (l .i) (l .inv .4),
     )
 
@@ -81,8 +79,7 @@ waiting-changes-spec =
     Inv-loop
     μ-loop
     loop-holds
-    add-j
-    cast-j
+    slot-after-requires
     mul-with-changes
     element-copy-out-with-changes
     mul-with-changes-2
