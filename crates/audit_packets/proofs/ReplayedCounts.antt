@@ -1,10 +1,10 @@
 -- S3's replay: a packet's own words, tested at its stage by sums of changes, decide for every cell.
-use mathlib.Core.Path.{_≡_, refl, sym, ap, subst}
+use mathlib.Core.Path.{_≡_, refl, sym, ap, ap₂, _∙_, subst}
 use mathlib.Core.Logic.{⊎-elim}
 use mathlib.Core.Bool.{Bool, true, false, not, _&&_}
 use mathlib.Core.List.{List, [], _∷_, _++_}
 use Prim.Native.Nat.{ℕ, zero, suc, pred, _+_, _-_, _%_, _≤_, _<_}
-use native.Mathlib.Numerals.{sub-one}
+use native.Mathlib.Numerals.{add-one, sub-one}
 use native.Mathlib.Omega.{arith}
 use lib.Dec.{leb, eqb}
 use borrow.Author.Tests.{leb-true, le-leb, eqb-true, eqb-false}
@@ -15,14 +15,16 @@ use Rattle.machine.specs.Queue.{Packet, slots, slot, packetsFrom, waiting}
 use Rattle.machine.specs.Range.{every}
 use Rattle.machine.specs.Table.{rootCount, capacity, wordAt}
 use Rattle.machine.specs.Words.{isCell, ceiling}
+use Rattle.machine.proofs.Lists.{waiting-snoc}
 use Rattle.machine.proofs.Range.{tested, below-suc, and-both, and-first, and-second, or-right, every-at, every-all, matching-other}
 use Rattle.machine.proofs.Replay.{replays-uses, replays-bound, replays-rest}
 use Rattle.machine.proofs.Ring.{packets-snoc}
 use Rattle.machine.proofs.Words.{cell-number, cell-place, place-cell}
-use Rattle.queue.proofs.Totals.{waiting-snoc}
-use Rattle.audit_packets.specs.Packets.{packetOn, oldest, cutTo, stageSound, wordReplays, packetReplays, replaysAll}
+use Rattle.queue.specs.declared.HeldSums.{HeldSums}
+use Rattle.queue.specs.Sums.{CounterSums, WithCount, atLeast, atMostCeiling}
+use Rattle.audit_packets.specs.Packets.{packetOn, oldest, cutTo, HeldAfter, stageSound, wordReplays, packetReplays, replaysAll}
 use Rattle.audit_cells.proofs.Cells.{cell-counts, counts-facts}
-use Rattle.audit_cells.proofs.Tests.{refuted, same-tests}
+use Rattle.audit_cells.proofs.Tests.{and-no-first, and-decides, same-tests}
 
 pub uses-by : (p : Packet) (x : ℕ) (k : Kind) → kindOf (p .kind) ≡ k → usesOf k (p .a) (p .b) (p .c) x ≡ uses p x
 unfolding uses
@@ -112,13 +114,6 @@ module _ (x : ℕ) where
       let b = leb (n + up (ps ++ (p ∷ []))) (ceiling + dn (ps ++ (p ∷ []))) in
       (leb-true (dn ps + uses p x) (n + up ps) (and-first a b h), leb-true (n + up (ps ++ (p ∷ []))) (ceiling + dn (ps ++ (p ∷ []))) (and-second a b h))
 
-  pub stage-unheld : (n : ℕ) (ps : List Packet) (p : Packet) → n + up ps < dn ps + uses p x → stageSound x n ps p ≡ false
-  stage-unheld n ps p l = refuted (stageSound x n ps p) (λ h. let f = stage-facts n ps p h .0 in omega arith)
-
-  pub stage-held : (n : ℕ) (ps : List Packet) (p : Packet) → dn ps + uses p x ≤ n + up ps → leb (n + up (ps ++ (p ∷ []))) (ceiling + dn (ps ++ (p ∷ []))) ≡ stageSound x n ps p
-  unfolding stageSound
-  stage-held n ps p l = rw (le-leb (dn ps + uses p x) (n + up ps) l)
-
   stage-replays : (n : ℕ) (ps : List Packet) (p : Packet) → replays x n ps ≡ true → stageSound x n ps p ≡ true → replays x n (ps ++ (p ∷ [])) ≡ true
   stage-replays n ps p h k =
       let f = stage-facts n ps p k in
@@ -157,7 +152,7 @@ module _ (t : List ℕ) (q : Queue) where
       ⊎-elim (λ k. oldest-replays x n m j (omega arith) (replays-fewer x n (oldest q m) (packetOn q m) (rw (oldest-more m) at h)))
       (λ (e : j ≡ suc m). rw e h) (below-suc {i = j} {n = suc m} (omega arith))
 
-  -- a word that is the cell at place i
+  -- a word that is the cell at index i
   word-stage : (j x i : ℕ) → x ≡ suc i → i < capacity t → wordReplays t q j x ≡ true → stageSound (suc i) (wordAt t i rootCount) (oldest q j) (packetOn q j) ≡ true
   unfolding wordReplays
   word-stage j x i e l h = let k = rw e at h in rw (place-cell (capacity t) i l) at k
@@ -231,11 +226,42 @@ unfolding packetsFrom slot
 packets-cut q m k zero = refl
 packets-cut q m k (suc n) = ap (λ (ps : List Packet). slot q (k % slots) ∷ ps) (packets-cut q m (suc k) n)
 
-pub waiting-cut : (q : Queue) (m : ℕ) → waiting (cutTo q m) ≡ oldest q m
+waiting-cut : (q : Queue) (m : ℕ) → waiting (cutTo q m) ≡ oldest q m
 unfolding waiting oldest
 waiting-cut q m = packets-cut q m (q .place) m
 
--- what the code tests
+-- what the code tests: of a stage,
+pub oldest-next : (q : Queue) (j : ℕ) → oldest q (j + 1) ≡ oldest q j ++ (packetOn q j ∷ [])
+oldest-next q j = ap (oldest q) (add-one j) ∙ oldest-more [] q j
+
+pub held-cut : (q : Queue) (j x n : ℕ) (s s′ : HeldSums) → CounterSums root (waiting (cutTo q j)) x (s .raised) (s .lowered)
+    → WithCount n (s .raised) (s .lowered) (s′ .raised) (s′ .lowered) → HeldAfter (oldest q j) x n s′
+held-cut q j x n s s′ h w = record {
+  raised = w .raised ∙ ap (n +_) (h .raised ∙ ap (waitingChange root plus x) (waiting-cut q j));
+  lowered = w .lowered ∙ h .lowered ∙ ap (waitingChange root minus x) (waiting-cut q j);
+  few = w .few;
+}
+
+module _ (x n : ℕ) (ps : List Packet) (p : Packet) where
+  abbrev Held : Bool
+  Held = leb (waitingChange root minus x ps + uses p x) (n + waitingChange root plus x ps)
+
+  pub question-6 : {r : Bool} (s : HeldSums) (u : ℕ) → HeldAfter ps x n s → u ≡ uses p x → r ≡ atLeast (s .raised) (s .lowered) u → r ≡ Held
+  question-6 s u h e k = k ∙ ap₂ leb (ap₂ _+_ (h .lowered) e) (h .raised)
+
+  pub stage-unheld : Held ≡ false → stageSound x n ps p ≡ false
+  unfolding stageSound
+  stage-unheld h = and-no-first _ h
+
+  pub stage-held : Held ≡ true → {r : Bool} (s : HeldSums) → HeldAfter (ps ++ (p ∷ [])) x n s
+      → r ≡ atMostCeiling (s .raised + 0) (s .lowered + 0) → r ≡ stageSound x n ps p
+  unfolding stageSound
+  stage-held h s k e =
+      let r : s .raised + 0 ≡ n + waitingChange root plus x (ps ++ (p ∷ [])) = omega (arith, k .raised) in
+      let l : ceiling + (s .lowered + 0) ≡ ceiling + waitingChange root minus x (ps ++ (p ∷ [])) = omega (arith, k .lowered) in
+      e ∙ ap₂ leb r l ∙ and-decides _ h
+
+-- and of a word
 module _ (t : List ℕ) (q : Queue) (j x : ℕ) where
   pub no-cell-replays : isCell (capacity t) x ≡ false → wordReplays t q j x ≡ true
   unfolding wordReplays

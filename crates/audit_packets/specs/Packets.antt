@@ -1,4 +1,5 @@
 -- S3 as the code asks it, packet by packet from the oldest: its words, then the words' root counts at its stage of the replay.
+use mathlib.Core.Path.{_≡_}
 use mathlib.Core.Bool.{Bool, not, _&&_, _||_}
 use mathlib.Core.List.{List, [], _∷_, _++_}
 use Prim.Native.Nat.{ℕ, suc, pred, _+_, _%_}
@@ -10,6 +11,8 @@ use Rattle.machine.specs.Queue.{Packet, slots, slot, packetsFrom, waiting}
 use Rattle.machine.specs.Range.{every}
 use Rattle.machine.specs.Table.{rootCount, capacity, wordAt}
 use Rattle.machine.specs.Words.{isCell, ceiling}
+use Rattle.queue.specs.declared.HeldSums.{HeldSums}
+use Rattle.queue.specs.Sums.{AtMost}
 
 -- the packet that j older ones wait before, and those
 unfoldable pub packetOn : Queue → ℕ → Packet
@@ -28,6 +31,12 @@ restZero q j = isZeroPacket (slot q ((q .place + q .count + j) % slots))
 
 unfoldable pub packetSound : List ℕ → Packet → Bool
 packetSound t p = packetLegal t p && namesInUse t p
+
+-- the held count of the cell x with root count n after the packets ps, as two sums
+pub record HeldAfter (ps : List Packet) (x n : ℕ) (s : HeldSums) : Type 0 where
+  pub raised : s .raised ≡ n + waitingChange root plus x ps
+  pub lowered : s .lowered ≡ waitingChange root minus x ps
+  pub few : AtMost (suc slots) (s .raised) (s .lowered)
 
 -- questions 6 and 9 of the cell x with root count n, at the packet p behind ps: two sums, nothing floored
 unfoldable pub stageSound : ℕ → ℕ → List Packet → Packet → Bool

@@ -4,21 +4,21 @@ use crate::slots::packet_on;
 use machine::Queue;
 use machine::RootCount;
 use questions::is_cell;
+use queue::HeldSums;
 use queue::Packet;
-use queue::Sums;
 ghost use mathlib.Core.Path.{_≡_};
 ghost use mathlib.Core.Bool.{true};
 ghost use Prim.Native.Nat.{_<_, _≤_};
 ghost use Rattle.machine.specs.Queue.{slots};
 ghost use Rattle.machine.specs.Packets.{uses};
 ghost use Rattle.machine.specs.Audit.{cellsSound};
-ghost use Rattle.queue.specs.Sums.{packetOf, SumsOf, Bounded};
+ghost use Rattle.queue.specs.Sums.{largestWord, packetOf};
 ghost use Rattle.machine.specs.Facts.{TableShape, Shape};
-ghost use Rattle.audit_packets.specs.Packets.{packetOn, oldest, stageSound, wordReplays, packetReplays, replaysAll};
+ghost use Rattle.audit_packets.specs.Packets.{packetOn, oldest, HeldAfter, stageSound, wordReplays, packetReplays, replaysAll};
 
 // How often the call behind a packet names x.
 fn times_named(p: Packet, x: u16) -> u32
-    ensures { λ r. ⌜ (r ≡ uses (packetOf p) x) × (r ≤ 65535) ⌝ }
+    ensures { λ r. ⌜ (r ≡ uses (packetOf p) x) × (r ≤ largestWord) ⌝ }
 {
     let kind = p.kind;
     match kind {
@@ -32,14 +32,16 @@ fn times_named(p: Packet, x: u16) -> u32
     }
 }
 
-// What the j oldest packets change of x.
-fn oldest_changes(queue: Queue, j: u16, x: u16) -> Sums
+// The held count of the cell x, with its root count, after the j oldest packets.
+fn held_after(queue: Queue, j: u16, x: u16, root: RootCount) -> HeldSums
     requires { ⌜ (queue .place < slots) × (j ≤ slots) ⌝ }
-    ensures { λ r. ⌜ SumsOf (oldest queue j) x r × Bounded slots r ⌝ }
+    ensures { λ r. ⌜ HeldAfter (oldest queue j) x (root .0) r ⌝ }
 {
     let mut cut = queue;
     cut.count = j;
-    queue::waiting_changes(cut, x)
+    let sums = queue::waiting_changes(cut, x);
+    let held = sums.held;
+    held.with(root)
 }
 
 // Questions 6 and 9 of the cell x, with its root count, at the packet that j older ones wait before.
@@ -47,13 +49,12 @@ fn stage_sound(queue: Queue, j: u16, x: u16, root: RootCount) -> bool
     requires { ⌜ (queue .place < slots) × (j < slots) ⌝ }
     ensures { λ r. ⌜ r ≡ stageSound x (root .0) (oldest queue j) (packetOn queue j) ⌝ }
 {
-    let n = root.0 as u32;
-    let before = oldest_changes(queue, j, x);
-    if n + before.rootplus < before.rootminus + times_named(packet_on(queue, j), x) {
+    let before = held_after(queue, j, x, root);
+    if !before.at_least(times_named(packet_on(queue, j), x)) {
         return false;
     }
-    let after = oldest_changes(queue, j + 1, x);
-    n + after.rootplus <= (RootCount::CEILING as u32) + after.rootminus
+    let after = held_after(queue, j + 1, x, root);
+    after.within(0, 0)
 }
 
 // A word that is no cell has no counts.

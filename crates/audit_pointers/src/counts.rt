@@ -1,73 +1,65 @@
-// Pointers to each cell, counted in the first C words of the scratch.
-use collector::marks::clear;
+// Pointers to each cell, counted in the scratch: a word for each cell.
 use machine::CellCount;
+use marks::clear;
+use questions::is_cell;
 ghost use mathlib.Core.Path.{_≡_};
-ghost use Prim.Native.Nat.{_<_, _≤_};
+ghost use Prim.Native.Nat.{suc, _<_, _≤_};
 ghost use lib.ListN.{length};
 ghost use Rattle.machine.specs.Range.{every};
-ghost use Rattle.machine.specs.Table.{capacity};
+ghost use Rattle.machine.specs.Table.{capacity, scratchWords};
 ghost use Rattle.machine.specs.Facts.{TableShape};
-ghost use Rattle.audit_pointers.specs.Undo.{CountUp, CountDown, CountCell, Counted, Below, countWithin, wordWithin, countMatches};
+ghost use Rattle.audit_pointers.specs.PointerCounts.{CountUp, CountDown, Below, mostPointers, CountCell, Counted, countWithin, wordWithin, countMatches};
 
 // One pointer more to the word w, if it is a cell.
 pub(crate) fn raise(scratch: &mut [u16], c: u16, w: u16)
-    requires { ⌜ (c ≤ length (now scratch)) × Below c 65534 (now scratch) ⌝ }
+    requires { ⌜ (scratchWords c ≤ length (now scratch)) × Below c (suc mostPointers) (now scratch) ⌝ }
     ensures { λ r. ⌜ CountUp c w (now (scratch .entry)) (now (scratch .exit)) ⌝ }
 {
-    if w == 0 {
-        return;
+    if is_cell(c, w) {
+        let index = (w - 1) as usize;
+        scratch[index] = scratch[index] + 1;
     }
-    if c < w {
-        return;
-    }
-    let place = (w - 1) as usize;
-    scratch[place] = scratch[place] + 1;
 }
 
 // One pointer less.
 pub(crate) fn lower(scratch: &mut [u16], c: u16, w: u16)
-    requires { ⌜ c ≤ length (now scratch) ⌝ }
+    requires { ⌜ scratchWords c ≤ length (now scratch) ⌝ }
     ensures { λ r. ⌜ CountDown c w (now (scratch .entry)) (now (scratch .exit)) ⌝ }
 {
-    if w == 0 {
-        return;
+    if is_cell(c, w) {
+        let index = (w - 1) as usize;
+        if 0 < scratch[index] {
+            scratch[index] = scratch[index] - 1;
+        }
     }
-    if c < w {
-        return;
-    }
-    let place = (w - 1) as usize;
-    if scratch[place] == 0 {
-        return;
-    }
-    scratch[place] = scratch[place] - 1;
 }
 
-fn count_cell(table: &[u16], place: usize, scratch: &mut [u16], c: u16)
-    requires { ⌜ TableShape (now table) × (c ≡ capacity (now table)) × (place < c) × (c ≤ length (now scratch)) × Below c 65000 (now scratch) ⌝ }
-    ensures { λ r. ⌜ CountCell (now (table .entry)) place (now (scratch .entry)) (now (scratch .exit)) ⌝ }
+fn count_cell(table: &[u16], index: usize, scratch: &mut [u16], c: u16)
+    requires { ⌜ TableShape (now table) × (c ≡ capacity (now table)) × (index < c) × (scratchWords c ≤ length (now scratch)) × Below c mostPointers (now scratch) ⌝ }
+    ensures { λ r. ⌜ CountCell (now (table .entry)) index (now (scratch .entry)) (now (scratch .exit)) ⌝ }
 {
-    if cells::in_use(table, place) {
-        raise(scratch, c, cells::field(table, place, cells::LEFT));
-        raise(scratch, c, cells::field(table, place, cells::RIGHT));
+    if cells::in_use(table, index) {
+        raise(scratch, c, cells::field(table, index, cells::LEFT));
+        raise(scratch, c, cells::field(table, index, cells::RIGHT));
     }
 }
 
 // The pointers of the table as it stands.
 pub(crate) fn count_pointers(table: &[u16], scratch: &mut [u16], c: u16)
-    requires { ⌜ TableShape (now table) × (c ≡ capacity (now table)) × (c ≤ length (now scratch)) ⌝ }
+    requires { ⌜ TableShape (now table) × (c ≡ capacity (now table)) × (scratchWords c ≤ length (now scratch)) ⌝ }
     ensures { λ r. ⌜ Counted (now (table .entry)) c (now (scratch .entry)) (now (scratch .exit)) ⌝ }
 {
     clear(scratch, c);
     let n = c as usize;
-    let mut place: usize = 0;
-    while place < n {
-        count_cell(table, place, scratch, c);
-        place += 1;
+    let mut index: usize = 0;
+    while index < n {
+        count_cell(table, index, scratch, c);
+        index += 1;
     }
 }
 
 pub(crate) fn all_within(scratch: &[u16], c: u16) -> bool
-    requires { ⌜ c ≤ length (now scratch) ⌝ }
+    requires { ⌜ scratchWords c ≤ length (now scratch) ⌝ }
     ensures { λ r. ⌜ r ≡ every c (countWithin (now (scratch .entry))) ⌝ }
 {
     let n = c as usize;
@@ -82,20 +74,17 @@ pub(crate) fn all_within(scratch: &[u16], c: u16) -> bool
 }
 
 pub(crate) fn word_within(scratch: &[u16], c: u16, w: u16) -> bool
-    requires { ⌜ c ≤ length (now scratch) ⌝ }
+    requires { ⌜ scratchWords c ≤ length (now scratch) ⌝ }
     ensures { λ r. ⌜ r ≡ wordWithin c (now (scratch .entry)) w ⌝ }
 {
-    if w == 0 {
-        return true;
+    if is_cell(c, w) {
+        return scratch[(w - 1) as usize] <= CellCount::CEILING;
     }
-    if c < w {
-        return true;
-    }
-    scratch[(w - 1) as usize] <= CellCount::CEILING
+    true
 }
 
 pub(crate) fn counts_match(table: &[u16], scratch: &[u16]) -> bool
-    requires { ⌜ TableShape (now table) × (capacity (now table) ≤ length (now scratch)) ⌝ }
+    requires { ⌜ TableShape (now table) × (scratchWords (capacity (now table)) ≤ length (now scratch)) ⌝ }
     ensures { λ r. ⌜ r ≡ every (capacity (now (table .entry))) (countMatches (now (table .entry)) (now (scratch .entry))) ⌝ }
 {
     let c = cells::capacity_of(table) as usize;

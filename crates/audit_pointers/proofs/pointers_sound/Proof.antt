@@ -1,6 +1,8 @@
 use mathlib.Core.Path.{sym, _∙_}
+use native.Mathlib.Omega.{arith}
 use borrow.Author.Needs.{needs}
-use Rattle.audit_pointers.proofs.UndoAll.{start-past, start-broken, undo-start}
+use Rattle.audit_pointers.proofs.PointerCounts.{scratch-of}
+use Rattle.audit_pointers.proofs.QueueUndo.{start-past, start-broken, undo-start}
 use Rattle.audit_cells.proofs.Tests.{passed, failed}
 use Rattle.audit_pointers.proofs.pointers_sound.Statement.{statement}
 use Rattle.audit_pointers.proofs.pointers_sound.Tie as tie
@@ -9,42 +11,60 @@ capacity-of-requires : tie.Need-capacity-of-requires
 capacity-of-requires c κs = search needs
 
 count-pointers-requires : tie.Need-count-pointers-requires
-count-pointers-requires c κs = search needs
+count-pointers-requires c κs =
+    let e = c .before .capacity-of .ensures in
+    let start = c .before .before .before .before in
+    let lent = start .pre .lent in
+    (lent .shape .table, e, scratch-of _ _ (start .args .table .now) e (lent .scratch))
 
 all-within-requires : tie.Need-all-within-requires
-all-within-requires c κs = search needs
+all-within-requires c κs =
+    let at-capacity = c .before .before .before .before .before in
+    let start = at-capacity .before .before .before in
+    let enough = scratch-of _ _ (start .args .table .now) (at-capacity .capacity-of .ensures) (start .pre .lent .scratch) in omega arith
 
 same-length : tie.Need-same-length
 same-length c = search needs
 
 returns : tie.Need-returns
 returns c =
-    let i = c .before .before .before .before .before .before .before .before .before .before .args in
-    let e = c .before .before .before .before .before .before .before .capacity-of .ensures in
-    let h = c .before .before .before .before .before .count-pointers .ensures in
+    let at-all-within = c .before in
+    let at-count = at-all-within .before .before .before .before in
+    let at-capacity = at-count .before .before in
+    let i = at-capacity .before .before .before .args in
+    let e = at-capacity .capacity-of .ensures in
+    let h = at-count .count-pointers .ensures in
     record {
-      answer = sym (start-broken (i .table .now) (i .queue) _ (i .scratch .now) _ e h (failed (c .before .all-within .ensures) (c .if1 .taken)));
+      answer = sym (start-broken (i .table .now) (i .queue) _ (i .scratch .now) _ e h (failed (at-all-within .all-within .ensures) (c .if1 .taken)));
       past = start-past (i .table .now) (i .queue) _ (i .scratch .now) _ e h;
     }
 
 undo-all-requires : tie.Need-undo-all-requires
 undo-all-requires c κs =
-    let i = c .before .before .before .before .before .before .before .before .before .before .before .args in
-    let e = c .before .before .before .before .before .before .before .before .capacity-of .ensures in
-    let h = c .before .before .before .before .before .before .count-pointers .ensures in
-    undo-start (i .table .now) (i .queue) _ (i .scratch .now) _ e h (passed (c .before .before .all-within .ensures) (c .before .if1 .left)) (c .before .before .before .before .before .before .before .before .before .before .before .pre) (c .before .before .before .before .before .before .count-pointers .kept .1 .0)
+    let at-if1 = c .before in
+    let at-all-within = at-if1 .before in
+    let at-count = at-all-within .before .before .before .before in
+    let at-capacity = at-count .before .before in
+    let start = at-capacity .before .before .before in
+    let i = start .args in
+    let within = passed (at-all-within .all-within .ensures) (at-if1 .if1 .left) in
+    undo-start (i .table .now) (i .queue) _ (i .scratch .now) _ (at-capacity .capacity-of .ensures) (at-count .count-pointers .ensures) within (start .pre)
+    (at-count .count-pointers .kept .1 .0)
 
 same-length-2 : tie.Need-same-length-2
 same-length-2 c = search needs
 
 returns-2 : tie.Need-returns-2
 returns-2 c =
-    let i = c .before .before .before .before .before .before .before .before .before .before .before .before .before .before .args in
-    let e = c .before .before .before .before .before .before .before .before .before .before .before .capacity-of .ensures in
-    let h = c .before .before .before .before .before .before .before .before .before .count-pointers .ensures in
+    let at-undo-all = c .before .before in
+    let at-count = at-undo-all .before .before .before .before .before .before .before in
+    let at-capacity = at-count .before .before in
+    let i = at-capacity .before .before .before .args in
+    let h = at-count .count-pointers .ensures in
+    let undone = at-undo-all .undo-all .ensures in
     record {
-      answer = c .before .before .undo-all .ensures .answer;
-      past = c .before .before .undo-all .ensures .past ∙ start-past (i .table .now) (i .queue) _ (i .scratch .now) _ e h;
+      answer = undone .answer;
+      past = undone .past ∙ start-past (i .table .now) (i .queue) _ (i .scratch .now) _ (at-capacity .capacity-of .ensures) h;
     }
 
 pub pointers-sound-spec : {M : Type 1} → statement M

@@ -2,8 +2,8 @@ use mathlib.Core.Path.{sym, _∙_}
 use native.Mathlib.Omega.{arith}
 use borrow.Author.Tests.{not-true, not-false}
 use borrow.Author.Needs.{needs}
-use Rattle.audit_pointers.specs.Undo.{Undoing}
-use Rattle.audit_pointers.proofs.UndoAll.{undo-next, undo-more, undo-broken, undo-done}
+use Rattle.audit_pointers.specs.UndoStages.{Undoing}
+use Rattle.audit_pointers.proofs.QueueUndo.{undo-next, undo-more, undo-broken, undo-done}
 use Rattle.audit_pointers.proofs.undo_all.Statement.{statement}
 use Rattle.audit_pointers.proofs.undo_all.Tie as tie
 
@@ -27,11 +27,14 @@ same-length c = c .before .before .before .undo .kept .1 .1 .1 .0 ∙ c .before 
 
 returns : tie.Need-returns Inv-loop μ-loop
 returns c =
-    let i = c .before .before .before .before .before .before .before .before .before .args in
-    let l = c .before .before .before .before .before .before .loop in
+    let at-undo = c .before .before .before in
+    let at-loop = at-undo .before .before .before in
+    let i = at-loop .before .before .before .args in
+    let l = at-loop .loop in
+    let u = at-undo .undo .ensures in
     record {
-      answer = sym (undo-broken (i .table .now) (i .queue) (l .j) (l .scratch) _ _ (l .inv .some) (omega arith) (c .before .before .before .undo .ensures) (not-true _ (c .if1 .taken)));
-      past = c .before .before .before .undo .ensures .past ∙ l .inv .past;
+      answer = sym (undo-broken (i .table .now) (i .queue) (l .j) (l .scratch) _ _ (l .inv .some) (omega arith) u (not-true _ (c .if1 .taken)));
+      past = u .past ∙ l .inv .past;
     }
 
 sub-j : tie.Need-sub-j Inv-loop μ-loop
@@ -42,21 +45,31 @@ loop-less c = search needs
 
 loop-again : tie.Need-loop-again Inv-loop μ-loop
 loop-again c =
-    let i = c .before .before .before .before .before .before .before .before .before .args in
-    let l = c .before .before .before .before .before .before .loop in
-    undo-more (i .table .now) (i .queue) (l .j) (i .scratch .now) (l .scratch) _ _ (l .inv) (omega arith) (c .before .before .before .undo .ensures) (not-false _ (c .if1 .left)) (c .before .before .before .undo .kept .1 .1 .1 .0)
+    let at-undo = c .before .before .before in
+    let at-loop = at-undo .before .before .before in
+    let i = at-loop .before .before .before .args in
+    let l = at-loop .loop in
+    let u = at-undo .undo in
+    undo-more (i .table .now) (i .queue) (l .j) (i .scratch .now) (l .scratch) _ _ (l .inv) (omega arith) (u .ensures) (not-false _ (c .if1 .left))
+    (u .kept .1 .1 .1 .0)
 
 counts-match-requires : tie.Need-counts-match-requires Inv-loop μ-loop
-counts-match-requires c κs = (c .before .before .loop .inv .able .room, c .before .before .loop .inv .able .enough)
+counts-match-requires c κs =
+    let lent = c .before .before .loop .inv .able .lent in
+    (lent .shape .table, lent .scratch)
 
 same-length-2 : tie.Need-same-length-2 Inv-loop μ-loop
 same-length-2 c = c .before .before .before .loop .inv .same
 
 returns-2 : tie.Need-returns-2 Inv-loop μ-loop
 returns-2 c =
-    let i = c .before .before .before .before .before .before .args in
-    let l = c .before .before .before .loop in
-    record { answer = c .counts-match .ensures ∙ undo-done (i .table .now) (i .queue) (l .j) (i .scratch .now) (l .scratch) (l .inv) (omega arith); past = l .inv .past }
+    let at-loop = c .before .before .before in
+    let i = at-loop .before .before .before .args in
+    let l = at-loop .loop in
+    record {
+      answer = c .counts-match .ensures ∙ undo-done (i .table .now) (i .queue) (l .j) (i .scratch .now) (l .scratch) (l .inv) (omega arith);
+      past = l .inv .past;
+    }
 
 pub undo-all-spec : {M : Type 1} → statement M
 undo-all-spec =

@@ -1,11 +1,13 @@
 use mathlib.Core.Path.{_≡_, refl, sym}
 use mathlib.Core.Bool.{true}
-use Prim.Native.Nat.{_-_, _≤_}
+use Prim.Native.Nat.{_-_, _≤_, _<_}
 use native.Mathlib.Omega.{arith}
+use lib.ListN.{length}
 use borrow.Author.Tests.{le-leb, lt-leb}
 use borrow.Author.Needs.{needs}
 use Rattle.machine.specs.Range.{every}
-use Rattle.audit_pointers.specs.Undo.{countWithin}
+use Rattle.marks.proofs.Scratch.{word-within}
+use Rattle.audit_pointers.specs.PointerCounts.{countWithin}
 use Rattle.audit_cells.proofs.Tests.{every-none, every-more, every-fails}
 use Rattle.audit_pointers.proofs.counts.all_within.Statement.{statement}
 use Rattle.audit_pointers.proofs.counts.all_within.Tie as tie
@@ -23,7 +25,11 @@ mul-if1 : tie.Need-mul-if1 Inv-loop μ-loop
 mul-if1 c = search needs
 
 shared-slice-read-if1 : tie.Need-shared-slice-read-if1 Inv-loop μ-loop
-shared-slice-read-if1 c = search needs
+shared-slice-read-if1 c =
+    let at-loop = c .before .before in
+    let start = at-loop .before in
+    let l : at-loop .loop .i < start .args .c = omega arith in
+    omega (arith, word-within (start .args .c) (at-loop .loop .i) (length (start .args .scratch .now)) l (start .pre))
 
 returns : tie.Need-returns Inv-loop μ-loop
 unfolding countWithin

@@ -1,7 +1,8 @@
 use mathlib.Core.Path.{sym, _∙_}
 use native.Mathlib.Omega.{arith}
 use borrow.Author.Needs.{needs}
-use Rattle.audit_pointers.proofs.Counts.{cell-counted, cell-free, below-more}
+use Rattle.audit_pointers.specs.PointerCounts.{mostPointers}
+use Rattle.audit_pointers.proofs.PointerCounts.{cell-counted, cell-free, below-more}
 use Rattle.audit_pointers.proofs.counts.count_cell.Statement.{statement}
 use Rattle.audit_pointers.proofs.counts.count_cell.Tie as tie
 
@@ -12,22 +13,37 @@ field-requires : tie.Need-field-requires
 field-requires c κs = search needs
 
 raise-requires : tie.Need-raise-requires
-raise-requires c κs = (omega arith, λ i l. omega (arith, c .before .before .before .before .before .before .pre .4 i l))
+raise-requires c κs =
+    let start = c .before .before .before .before .before .before in
+    (omega arith, λ i l. omega (arith, start .pre .4 i l))
 
 field-requires-2 : tie.Need-field-requires-2
 field-requires-2 c κs = search needs
 
 raise-requires-2 : tie.Need-raise-requires-2
 raise-requires-2 c κs =
-    let i = c .before .before .before .before .before .before .before .before .before .before .before .args in
-    let s = c .before .before .before .before .raise in
-    (omega (arith, s .kept .0), λ k l. omega (arith, below-more (i .c) _ 65000 (i .scratch .now) (s .last .0) (c .before .before .before .before .before .before .before .before .before .before .before .pre .4) (s .ensures) k l))
+    let at-raise = c .before .before .before .before in
+    let start = at-raise .before .before .before .before .before .before .before in
+    let i = start .args in
+    let r = at-raise .raise in
+    let few = below-more (i .c) _ mostPointers (i .scratch .now) (r .last .0) (start .pre .4) (r .ensures) in
+    (omega (arith, r .kept .0), λ k l. omega (arith, few k l))
 
 same-length : tie.Need-same-length
 same-length c = search needs
 
 returns : tie.Need-returns
-returns c = cell-counted _ _ _ _ _ _ _ _ (c .before .before .before .before .before .before .before .before .before .before .before .before .before .before .pre .1) (sym (c .before .before .before .before .before .before .before .before .before .before .before .in-use .ensures) ∙ c .before .before .before .before .before .before .before .before .before .before .if1 .taken) (c .before .before .before .before .before .before .before .before .field .ensures) (c .before .before .before .field2 .ensures) (c .before .before .before .before .before .before .before .raise .ensures) (c .before .before .raise2 .ensures)
+returns c =
+    let at-raise-2 = c .before .before in
+    let at-field-2 = at-raise-2 .before in
+    let at-raise = at-field-2 .before .before .before .before in
+    let at-field = at-raise .before in
+    let at-if1 = at-field .before .before in
+    let at-in-use = at-if1 .before in
+    let start = at-in-use .before .before .before in
+    let used = sym (at-in-use .in-use .ensures) ∙ at-if1 .if1 .taken in
+    cell-counted _ _ _ _ _ _ _ _ (start .pre .1) used (at-field .field .ensures) (at-field-2 .field2 .ensures) (at-raise .raise .ensures)
+    (at-raise-2 .raise2 .ensures)
 
 returns-2 : tie.Need-returns-2
 returns-2 c = cell-free _ _ _ (sym (c .before .in-use .ensures) ∙ c .if1 .left)

@@ -1,12 +1,14 @@
 use mathlib.Core.Path.{_≡_, sym, _∙_}
 use mathlib.Core.Bool.{true}
-use Prim.Native.Nat.{_-_, _≤_}
+use Prim.Native.Nat.{_-_, _≤_, _<_}
 use native.Mathlib.Omega.{arith}
+use lib.ListN.{length}
 use borrow.Author.Tests.{eq-eqb, ne-eqb}
 use borrow.Author.Needs.{needs}
 use Rattle.machine.specs.Range.{every}
 use Rattle.machine.specs.Table.{capacity}
-use Rattle.audit_pointers.specs.Undo.{countMatches}
+use Rattle.marks.proofs.Scratch.{word-within}
+use Rattle.audit_pointers.specs.PointerCounts.{countMatches}
 use Rattle.audit_cells.proofs.Tests.{every-none, every-more, every-fails}
 use Rattle.audit_pointers.proofs.counts.counts_match.Statement.{statement}
 use Rattle.audit_pointers.proofs.counts.counts_match.Tie as tie
@@ -33,7 +35,11 @@ mul-if1 : tie.Need-mul-if1 Inv-loop μ-loop
 mul-if1 c = search needs
 
 shared-slice-read-if1 : tie.Need-shared-slice-read-if1 Inv-loop μ-loop
-shared-slice-read-if1 c = search needs
+shared-slice-read-if1 c =
+    let at-loop = c .before .before .before in
+    let start = at-loop .before .before .before .before in
+    let l : at-loop .loop .i < capacity (start .args .table .now) = omega arith in
+    omega (arith, word-within (capacity (start .args .table .now)) (at-loop .loop .i) (length (start .args .scratch .now)) l (start .pre .1))
 
 returns : tie.Need-returns Inv-loop μ-loop
 unfolding countMatches
@@ -47,7 +53,10 @@ loop-less c = search needs
 
 loop-again : tie.Need-loop-again Inv-loop μ-loop
 unfolding countMatches
-loop-again c = (omega arith, every-more _ _ (c .before .before .before .before .before .loop .inv .1) (eq-eqb _ _ (sym (c .before .before .before .cell-count .ensures) ∙ c .if1 .left)))
+loop-again c =
+    let at-cell-count = c .before .before .before in
+    let at-loop = at-cell-count .before .before in
+    (omega arith, every-more _ _ (at-loop .loop .inv .1) (eq-eqb _ _ (sym (at-cell-count .cell-count .ensures) ∙ c .if1 .left)))
 
 returns-2 : tie.Need-returns-2 Inv-loop μ-loop
 returns-2 c =

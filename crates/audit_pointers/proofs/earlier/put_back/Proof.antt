@@ -12,10 +12,14 @@ add-if1 : tie.Need-add-if1
 add-if1 c = search needs
 
 returns : tie.Need-returns
-returns c = let i = c .before .args in let e : eqb (i .cell) (suc (i .place)) ≡ true = eq-eqb (i .cell) (suc (i .place)) (omega arith) in rw e refl
+returns c =
+    let i = c .before .args in
+    let e : eqb (i .cell) (suc (i .index)) ≡ true = eq-eqb (i .cell) (suc (i .index)) (omega arith) in rw e refl
 
 returns-2 : tie.Need-returns-2
-returns-2 c = let i = c .before .args in let e : eqb (i .cell) (suc (i .place)) ≡ false = ne-eqb (i .cell) (suc (i .place)) (λ d. c .if1 .left (omega arith)) in rw e refl
+returns-2 c =
+    let i = c .before .args in
+    let e : eqb (i .cell) (suc (i .index)) ≡ false = ne-eqb (i .cell) (suc (i .index)) (λ d. c .if1 .left (omega arith)) in rw e refl
 
 pub put-back-spec : {M : Type 1} → statement M
 put-back-spec = tie.close (tie.spec add-if1 returns returns-2)

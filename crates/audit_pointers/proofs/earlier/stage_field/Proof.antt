@@ -3,16 +3,16 @@ use Prim.Native.Nat.{_≤_}
 use native.Mathlib.Omega.{arith}
 use borrow.Author.Needs.{needs}
 use Rattle.machine.specs.Queue.{Packet}
-use Rattle.audit_pointers.specs.Undo.{fieldBefore, newer, stageField}
-use Rattle.audit_pointers.proofs.Earlier.{stage-none, stage-less}
+use Rattle.audit_pointers.specs.EarlierFields.{fieldBefore, newer, stageField}
+use Rattle.audit_pointers.proofs.EarlierFields.{stage-none, stage-less}
 use Rattle.audit_pointers.proofs.earlier.stage_field.Statement.{statement}
 use Rattle.audit_pointers.proofs.earlier.stage_field.Tie as tie
 
 abbrev Inv-loop : tie.InvT-loop
-Inv-loop table queue from place k w₀ j₀ w j = (from ≤ j) × (j ≤ queue .count) × (w ≡ stageField table (newer queue j) place k)
+Inv-loop table queue from index k w₀ j₀ w j = (from ≤ j) × (j ≤ queue .count) × (w ≡ stageField table (newer queue j) index k)
 
 abbrev μ-loop : tie.MeasureT-loop
-μ-loop table queue from place k w₀ j₀ w j = j
+μ-loop table queue from index k w₀ j₀ w j = j
 
 field-requires : tie.Need-field-requires Inv-loop μ-loop
 field-requires c κs = search needs
@@ -20,7 +20,7 @@ field-requires c κs = search needs
 loop-holds : tie.Need-loop-holds Inv-loop μ-loop
 loop-holds c =
     let i = c .before .before .args in
-    (omega arith, omega arith, c .field .ensures ∙ stage-none (i .table .now) (i .queue) (i .place) (i .k))
+    (omega arith, omega arith, c .field .ensures ∙ stage-none (i .table .now) (i .queue) (i .index) (i .k))
 
 sub-j : tie.Need-sub-j Inv-loop μ-loop
 sub-j c = search needs
@@ -40,8 +40,8 @@ loop-again c =
     let l = c .before .before .before .loop in (
       omega arith,
       omega arith,
-      c .field-before .ensures ∙ ap (λ (p : Packet). fieldBefore p (i .place) (i .k) (l .w)) (c .before .packet-on .ensures)
-          ∙ stage-less (i .table .now) (i .queue) (i .place) (i .k) (l .w) (l .j) (omega arith) (l .inv .1) (l .inv .2),
+      c .field-before .ensures ∙ ap (λ (p : Packet). fieldBefore p (i .index) (i .k) (l .w)) (c .before .packet-on .ensures)
+          ∙ stage-less (i .table .now) (i .queue) (i .index) (i .k) (l .w) (l .j) (omega arith) (l .inv .1) (l .inv .2),
     )
 
 returns : tie.Need-returns Inv-loop μ-loop

@@ -1,48 +1,65 @@
 -- S4: pointer counts in the scratch, one word up or down, and what the code tests of them.
 use mathlib.Core.Path.{_≡_, refl, sym, ap, _∙_}
 use mathlib.Core.Logic.{⊎-elim}
-use mathlib.Core.Bool.{true, false}
-use mathlib.Core.List.{List, _++_}
+use mathlib.Core.Bool.{Bool, true, false}
+use mathlib.Core.List.{List}
 use Prim.Native.Nat.{ℕ, zero, suc, _+_, _-_, _*_, _≤_, _<_}
 use native.Mathlib.Omega.{arith}
 use native.Mathlib.Numerals.{sub-one}
 use lib.Dec.{leb, eqb}
-use lib.ListN.{length, getD, set, drop, replicate, length-replicate, getD-replicate, List·getD-append}
-use lib.Seq.{getD-set-same, getD-set-other, drop-set-lt, drop-at}
-use borrow.Author.Tests.{le-leb, lt-leb, eqb-true, eqb-false}
+use lib.ListN.{length, getD, set, drop}
+use lib.Seq.{getD-set-same, getD-set-other, drop-set-lt}
+use borrow.Author.Tests.{eqb-true, eqb-false}
 use Rattle.machine.specs.Counts.{pointers, pointersFrom}
 use Rattle.machine.specs.Range.{total, matching}
 use Rattle.machine.specs.Step.{cleared}
-use Rattle.machine.specs.Table.{left, right, capacity, wordAt, inUse}
-use Rattle.machine.specs.Words.{isCell, ceiling}
-use Rattle.machine.proofs.Range.{tested, matching-same, matching-other}
-use Rattle.audit_pointers.specs.Undo.{CountUp, CountDown, CountCell, Counted, Below, countWithin, wordWithin}
-use Rattle.audit_cells.proofs.Tests.{and-no-second, total-more}
-use Rattle.audit_packets.proofs.LegalPackets.{nil-no-cell, some-cell}
+use Rattle.machine.specs.Table.{left, right, capacity, scratchWords, wordAt, inUse}
+use Rattle.machine.specs.Words.{isCell, ceiling, mostCells}
+use Rattle.machine.proofs.Range.{tested, not-both, matching-same, matching-other}
+use Rattle.machine.proofs.Scratch.{cleared-zero, past-cleared}
+use Rattle.machine.proofs.Words.{cell-number, cell-place, place-cell}
+use Rattle.marks.proofs.Scratch.{cell-word, word-within}
+use Rattle.audit_cells.proofs.Tests.{total-more}
+use Rattle.audit_pointers.specs.PointerCounts.{CountUp, CountDown, Below, mostPointers, CountCell, Counted, countWithin, wordWithin}
 
 pub matching-most : (w x : ℕ) → matching w x 1 ≤ 1
 matching-most w x =
     ⊎-elim (λ e. omega (arith, matching-same w x 1 (eqb-true w x e))) (λ e. omega (arith, matching-other w x 1 (eqb-false w x e))) (tested (eqb w x))
 
+-- a word that the code found to be a cell of c
+pub cell-bounds : (c w : ℕ) {r : Bool} → r ≡ isCell c w → r ≡ true → (1 ≤ w) × (w ≤ c)
+cell-bounds c w e h =
+    let k = sym e ∙ h in
+    let n = cell-number c w k in
+    let l = cell-place c w k in
+    (omega arith, omega arith)
+
+-- the scratch is enough for the C that the code read
+pub scratch-of : (c n : ℕ) (t : List ℕ) → c ≡ capacity t → scratchWords (capacity t) ≤ n → scratchWords c ≤ n
+scratch-of c n t e h = rw e h
+
 -- a word that is no cell of c
-module _ (c w : ℕ) (s : List ℕ) (none : (i : ℕ) → i < c → w ≡ suc i → ⊥) where
+module _ (c w : ℕ) (s : List ℕ) (no : isCell c w ≡ false) where
+  other-word : (i : ℕ) → i < c → matching w (suc i) 1 ≡ 0
+  other-word i l = matching-other w (suc i) 1 (λ e. not-both (place-cell c i l) (rw e at no))
+
   pub up-none : CountUp c w s s
-  up-none = record { each = λ i l. omega (arith, matching-other w (suc i) 1 (none i l)); past = refl }
+  up-none = record { each = λ i l. omega (arith, other-word i l); past = refl }
 
   pub down-none : CountDown c w s s
-  down-none = record { each = λ i l. omega (arith, matching-other w (suc i) 1 (none i l)); past = refl }
+  down-none = record { each = λ i l. omega (arith, other-word i l); past = refl }
 
 -- a cell's count written
-module _ (c w v : ℕ) (s : List ℕ) (some : w ≡ 0 → ⊥) (low : w ≤ c) (room : c ≤ length s) where
+module _ (c w v : ℕ) (s : List ℕ) (number : 1 ≤ w) (low : w ≤ c) (enough : scratchWords c ≤ length s) where
   abbrev s′ : List ℕ
   s′ = set s (w - 1) v
 
-  past : drop c s′ ≡ drop c s
-  past = drop-set-lt c s (w - 1) v (omega arith)
+  past : drop (scratchWords c) s′ ≡ drop (scratchWords c) s
+  past = drop-set-lt (scratchWords c) s (w - 1) v (cell-word c (w - 1) (omega arith))
 
   -- the count of the cell, and of any other
   here : (i : ℕ) → w ≡ suc i → getD s′ i 0 ≡ v
-  here i e = let d : w - 1 ≡ i = omega arith in rw d (getD-set-same s i v 0 (omega arith))
+  here i e = let d : w - 1 ≡ i = omega arith in rw d (getD-set-same s i v 0 (word-within c i (length s) (omega arith) enough))
 
   other : (i : ℕ) → (w ≡ suc i → ⊥) → getD s′ i 0 ≡ getD s i 0
   other i d = getD-set-other s (w - 1) i v 0 (λ e. d (omega arith))
@@ -108,46 +125,32 @@ pointers-few t x (suc n) = omega (arith, pointers-few t x n, two-most t n x)
 pub below-more : (c w n : ℕ) (s s′ : List ℕ) → Below c n s → CountUp c w s s′ → Below c (n + 1) s′
 below-more c w n s s′ h k i l = omega (arith, h i l, k .each i l, matching-most w (suc i))
 
--- the cleared scratch
-pub cleared-word : (c : ℕ) (s : List ℕ) (i : ℕ) → i < c → getD (cleared c s) i 0 ≡ 0
-unfolding cleared
-cleared-word c s i l = List·getD-append (replicate c 0) (drop c s) 0 i (rw (length-replicate {A = ℕ} c 0) l) ∙ getD-replicate c i 0 0 l
-
-pub cleared-past : (c : ℕ) (s : List ℕ) → drop c (cleared c s) ≡ drop c s
-unfolding cleared
-cleared-past c s = drop-at (replicate c 0) (drop c s) c (length-replicate c 0)
-
-pub cleared-same : (c : ℕ) (s s′ : List ℕ) → drop c s′ ≡ drop c s → cleared c s′ ≡ cleared c s
-unfolding cleared
-cleared-same c s s′ e = ap (λ (r : List ℕ). replicate c 0 ++ r) e
-
 -- what the code tests of a word
 module _ (c w : ℕ) (s : List ℕ) where
-  pub nil-within : w ≡ 0 → wordWithin c s w ≡ true
+  pub no-cell-within : isCell c w ≡ false → wordWithin c s w ≡ true
   unfolding wordWithin
-  nil-within e = rw (nil-no-cell c w e)
+  no-cell-within h = rw h
 
-  pub past-within : c < w → wordWithin c s w ≡ true
-  unfolding wordWithin isCell
-  past-within l = rw (and-no-second (leb 1 w) (lt-leb w c l))
-
-  pub cell-within : (w ≡ 0 → ⊥) → w ≤ c → leb (getD s (w - 1) 0) ceiling ≡ wordWithin c s w
+  pub cell-within : isCell c w ≡ true → leb (getD s (w - 1) 0) ceiling ≡ wordWithin c s w
   unfolding wordWithin countWithin
-  cell-within d l = rw (sym (some-cell c w d), le-leb w c l, sub-one w)
+  cell-within h = rw (h, sub-one w)
+
+pub nil-within : (c : ℕ) (s : List ℕ) → wordWithin c s 0 ≡ true
+nil-within c s = no-cell-within c 0 s (unfold isCell in refl)
 
 -- the first n cells counted, from the scratch s₀ that was cleared
 pub record Counting (t : List ℕ) (n c : ℕ) (s₀ s : List ℕ) : Type 0 where
   pub cells : c ≡ capacity t
   pub each : (i : ℕ) → i < c → getD s i 0 ≡ total n (pointersFrom t (suc i))
-  pub past : drop c s ≡ drop c s₀
+  pub past : drop (scratchWords c) s ≡ drop (scratchWords c) s₀
   pub same : length s ≡ length s₀
 
 module _ (t : List ℕ) (c : ℕ) where
-  pub counting-none : (r s : List ℕ) → c ≡ capacity t → s ≡ cleared c r → Counting t 0 c s s
+  pub counting-none : (r s : List ℕ) → c ≡ capacity t → s ≡ cleared (scratchWords c) r → Counting t 0 c s s
   unfolding total
   counting-none r s e h = record {
     cells = e;
-    each = λ i l. ap (λ (z : List ℕ). getD z i 0) h ∙ cleared-word c r i l;
+    each = λ i l. ap (λ (z : List ℕ). getD z i 0) h ∙ cleared-zero (scratchWords c) r i (cell-word c i l);
     past = refl;
     same = refl;
   }
@@ -160,12 +163,12 @@ module _ (t : List ℕ) (c : ℕ) where
     same = e ∙ h .same;
   }
 
-  pub counting-below : (n : ℕ) (s₀ s : List ℕ) → Counting t n c s₀ s → n ≤ 4096 → Below c 65000 s
+  pub counting-below : (n : ℕ) (s₀ s : List ℕ) → Counting t n c s₀ s → n ≤ mostCells → Below c mostPointers s
   counting-below n s₀ s h l i b = omega (arith, h .each i b, pointers-few t (suc i) n)
 
-  pub counting-done : (n : ℕ) (r s₀ s : List ℕ) → Counting t n c s₀ s → n ≡ c → s₀ ≡ cleared c r → Counted t c r s
+  pub counting-done : (n : ℕ) (r s₀ s : List ℕ) → Counting t n c s₀ s → n ≡ c → s₀ ≡ cleared (scratchWords c) r → Counted t c r s
   unfolding pointers
   counting-done n r s₀ s h e k = record {
     each = λ i l. h .each i l ∙ ap (λ (m : ℕ). total m (pointersFrom t (suc i))) (e ∙ h .cells);
-    past = h .past ∙ ap (drop c) k ∙ cleared-past c r;
+    past = h .past ∙ ap (drop (scratchWords c)) k ∙ past-cleared (scratchWords c) r;
   }

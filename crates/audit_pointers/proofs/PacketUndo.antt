@@ -18,16 +18,18 @@ use Rattle.machine.specs.Questions.{pointersWithin}
 use Rattle.machine.specs.Queue.{Packet}
 use Rattle.machine.specs.Range.{matching}
 use Rattle.machine.specs.Table.{left, right, capacity, tableLength, wordAt, putWord, inUse}
-use Rattle.machine.specs.Words.{isCell, ceiling}
+use Rattle.machine.specs.Words.{isCell, ceiling, mostCells}
 use Rattle.machine.proofs.Range.{tested, and-both, or-right, matching-other}
 use Rattle.machine.proofs.Table.{word-other, length-putWord, capacity-putWord}
 use Rattle.machine.proofs.Undo.{within-is}
 use Rattle.machine.proofs.Words.{cell-place, place-cell}
 use Rattle.audit_packets.specs.Packets.{packetOn}
-use Rattle.audit_pointers.specs.Undo.{newer, stageField, stage, CountUp, CountDown, Below, countWithin, wordWithin, UsedCell, Undoable, Undoes, UndoesKind, UndoesPacket}
-use Rattle.audit_pointers.proofs.Pointers.{use-put, pointers-put}
-use Rattle.audit_pointers.proofs.Earlier.{AllPlaced, PlacedOf, Placed, all-placed, newer-step, Refielded, refielded, stage-field, Keeps, kept-undo}
-use Rattle.audit_pointers.proofs.Counts.{nil-within}
+use Rattle.audit_pointers.specs.EarlierFields.{newer, stageField}
+use Rattle.audit_pointers.specs.PointerCounts.{CountUp, CountDown, Below, mostPointers, countWithin, wordWithin}
+use Rattle.audit_pointers.specs.UndoStages.{stage, UsedCell, Undoable, Undoes, UndoesKind, UndoesPacket}
+use Rattle.audit_pointers.proofs.FieldPointers.{use-put, pointers-put}
+use Rattle.audit_pointers.proofs.EarlierFields.{AllPlaced, PlacedOf, Placed, all-placed, newer-step, Refielded, refielded, stage-field, Keeps, kept-undo}
+use Rattle.audit_pointers.proofs.PointerCounts.{nil-within}
 use Rattle.audit_cells.proofs.Tests.{same-tests, and-no-first, and-no-second, and-decides}
 
 -- a word is matched by no cell if it is nil
@@ -72,8 +74,8 @@ module _ (t : List ℕ) (q : Queue) (j : ℕ) (s : List ℕ) (h : Undoable t q j
   abbrev v : List ℕ
   v = stage t q (j + 1)
 
-  few : capacity t ≤ 4096
-  few = h .able .room .most
+  few : capacity t ≤ mostCells
+  few = h .able .lent .shape .table .most
 
   all : AllPlaced t (newer q (j + 1))
   all = let l = h .some in all-placed q t few (h .able .legal) (j + 1) (omega arith)
@@ -85,12 +87,12 @@ module _ (t : List ℕ) (q : Queue) (j : ℕ) (s : List ℕ) (h : Undoable t q j
   -- the field that the code finds is the stage's
   pub found : (i k w : ℕ) → k ≤ right → w ≡ stageField t (newer q (j + 1)) i k → w ≡ wordAt v i k
   unfolding stage
-  found i k w l e = e ∙ sym (stage-field t (newer q (j + 1)) (h .able .room .room) all i k l)
+  found i k w l e = e ∙ sym (stage-field t (newer q (j + 1)) (h .able .lent .shape .table .room) all i k l)
 
   long : tableLength (capacity v) ≤ length v
-  long = rw (re .sameCapacity, re .sameLength) (h .able .room .room)
+  long = rw (re .sameCapacity, re .sameLength) (h .able .lent .shape .table .room)
 
-  pub undo-below : (c : ℕ) → c ≡ capacity t → Below c 65534 s
+  pub undo-below : (c : ℕ) → c ≡ capacity t → Below c (suc mostPointers) s
   undo-below c e i l = omega (arith, h .each i (omega arith), within-is v .0 (h .within) i (omega (arith, re .sameCapacity)))
 
   module _ (x : ℕ) (u : UsedCell t x) where
@@ -147,7 +149,7 @@ module _ (t : List ℕ) (q : Queue) (j : ℕ) (s : List ℕ) (h : Undoable t q j
         pub cons-yes : (c : ℕ) (s₁ s₂ : List ℕ) → c ≡ capacity t → w ≡ a → z ≡ b → CountDown c a s s₁ → CountDown c b s₁ s₂ → UndoesKind t q j makes a b x s s₂ true
         unfolding undoableOf undoneOf
         cons-yes c s₁ s₂ m f g one two = record {
-          answer = sym (nil-within c 0 s₂ refl)
+          answer = sym (nil-within c s₂)
               ∙ within-word v v₂ c 0 s₂ (re .sameCapacity ∙ sym m) (cap ∙ re .sameCapacity ∙ sym m) (h .within) (λ i l. omega (arith, sum i)) counts
               ∙ and-decides (pointersWithin v₂) (and-both (eq-eqb (field v x left) a (sym (holds left a b w (omega arith) el) ∙ f)) (eq-eqb (field v x right) b (sym (holds right a b z (omega arith) er) ∙ g)));
           each = λ _ i l. counts i (omega arith);
@@ -192,7 +194,7 @@ module _ (t : List ℕ) (q : Queue) (j : ℕ) (s : List ℕ) (h : Undoable t q j
   here-placed : Placed t (packetOn q j)
   here-placed =
       let l = h .some in
-      (subst (AllPlaced t) (newer-step q j (h .some)) (all-placed q t (h .able .room .most) (h .able .legal) j (omega arith))) .0
+      (subst (AllPlaced t) (newer-step q j (h .some)) (all-placed q t (h .able .lent .shape .table .most) (h .able .legal) j (omega arith))) .0
 
   module _ (p : Packet) (e : p ≡ packetOn q j) where
     placed-kind : (κ : Kind) → kindOf (p .kind) ≡ κ → PlacedOf t κ (p .c)

@@ -1,4 +1,4 @@
--- S4: the stages of the undoing, read through the packets.
+-- S4: fields of the stages of the undoing, read through the packets.
 use mathlib.Core.Path.{_≡_, refl, sym, ap, ap₂, _∙_}
 use mathlib.Core.Logic.{⊎-elim}
 use mathlib.Core.Bool.{Bool, true, false, cond, _&&_, _||_}
@@ -14,12 +14,12 @@ use Rattle.machine.specs.Packets.{Kind, reads, makes, replaces, raises, lowers,
 use Rattle.machine.specs.Queue.{Packet, slots, slot, packetsFrom, waiting}
 use Rattle.machine.specs.Range.{everyOf}
 use Rattle.machine.specs.Table.{left, right, state, capacity, tableLength, wordAt, putWord, inUse}
-use Rattle.machine.specs.Words.{isNil, isCell, isAtom, isLegal}
+use Rattle.machine.specs.Words.{isNil, isCell, isAtom, isLegal, mostCells}
 use Rattle.machine.proofs.Range.{and-first, and-second, or-true, every-at}
 use Rattle.machine.proofs.Table.{Inside, room, word-put, word-other, length-putWord, capacity-putWord, inside-put}
 use Rattle.machine.proofs.Words.{cell-place, cell-number}
 use Rattle.audit_packets.specs.Packets.{packetOn, packetSound}
-use Rattle.audit_pointers.specs.Undo.{newer, fieldBeforeOf, fieldBefore, stageField}
+use Rattle.audit_pointers.specs.EarlierFields.{newer, fieldBeforeOf, fieldBefore, stageField}
 use Rattle.audit_packets.proofs.LegalPackets.{legal-every}
 
 -- a packet that wrote fields did so in a cell in use, which is told by c
@@ -39,7 +39,7 @@ AllPlaced t [] = Unit {0}
 AllPlaced t (p ∷ ps) = Placed t p × AllPlaced t ps
 
 -- C is below every atom
-cell-used : (t : List ℕ) (w : ℕ) → capacity t ≤ 4096 → isCell (capacity t) w ≡ true → fieldSound t w ≡ true → inUse t (pred w) ≡ true
+cell-used : (t : List ℕ) (w : ℕ) → capacity t ≤ mostCells → isCell (capacity t) w ≡ true → fieldSound t w ≡ true → inUse t (pred w) ≡ true
 unfolding fieldSound isNil isAtom
 cell-used t w m c h =
     let n = cell-number (capacity t) w c in
@@ -77,7 +77,7 @@ fielded k =
     (fielded-cond (eqb k 4) raises _ tt
     (fielded-cond (eqb k 5) lowers _ tt (fielded-cond (eqb k 6) (replaces right) unknown (omega arith) tt)))))
 
-placed-of : (t : List ℕ) (k : Kind) (a b c : ℕ) → capacity t ≤ 4096 → Fielded k → wordsOfKind (capacity t) k a b c ≡ true → everyOf (namesOf k a b c) (fieldSound t) ≡ true → PlacedOf t k c
+placed-of : (t : List ℕ) (k : Kind) (a b c : ℕ) → capacity t ≤ mostCells → Fielded k → wordsOfKind (capacity t) k a b c ≡ true → everyOf (namesOf k a b c) (fieldSound t) ≡ true → PlacedOf t k c
 unfolding wordsOfKind namesOf
 placed-of t reads a b c m f h n = tt
 placed-of t makes a b c m f h n =
@@ -90,7 +90,7 @@ placed-of t raises a b c m f h n = tt
 placed-of t lowers a b c m f h n = tt
 placed-of t unknown a b c m f h n = tt
 
-placed : (t : List ℕ) (p : Packet) → capacity t ≤ 4096 → packetSound t p ≡ true → Placed t p
+placed : (t : List ℕ) (p : Packet) → capacity t ≤ mostCells → packetSound t p ≡ true → Placed t p
 unfolding packetSound packetLegal namesInUse names
 placed t p m h =
     placed-of t (kindOf (p .kind)) (p .a) (p .b) (p .c) m (fielded (p .kind))
@@ -121,7 +121,7 @@ module _ (q : Queue) where
   newer-ind P none more zero j e = rw (newer-none j (omega arith)) none
   newer-ind P none more (suc n) j e = rw (newer-step j (omega arith)) (more j (omega arith) (newer-ind P none more n (j + 1) (omega arith)))
 
-  pub all-placed : (t : List ℕ) → capacity t ≤ 4096 → packetsLegal t (waiting q) ≡ true → (j : ℕ) → j ≤ q .count → AllPlaced t (newer q j)
+  pub all-placed : (t : List ℕ) → capacity t ≤ mostCells → packetsLegal t (waiting q) ≡ true → (j : ℕ) → j ≤ q .count → AllPlaced t (newer q j)
   all-placed t m h j l =
       newer-ind (AllPlaced t) tt
       (λ i b r. (placed t (packetOn q i) m (every-at (q .count) (λ k. packetSound t (packetOn q k)) (sym (legal-every t q) ∙ h) i b), r))
@@ -177,8 +177,8 @@ module _ (t v : List ℕ) (h : Refielded t v) (f : tableLength (capacity t) ≤ 
           ∙ ap (λ (w : ℕ). cond (eqb right m && eqb (pred c) i) 0 w) (word-put v (pred c) left 0 i m (inside (pred c) (p .1)) (omega arith) (omega arith))
 
       go : (m : ℕ) → m ≤ right → wordAt (putWord u (pred c) right 0) i m ≡ cond (eqb c (suc i)) 0 (wordAt v i m)
-      go zero l = rw (same-cell c i (p .0)) (two 0 l)
-      go (suc zero) l = rw (same-cell c i (p .0)) (two 1 l)
+      go zero l = rw (same-cell c i (p .0)) (two left l)
+      go (suc zero) l = rw (same-cell c i (p .0)) (two right l)
       go (suc (suc m)) l = absurd (omega arith)
   field-undone (replaces k) a b c p i m l = let n = p .3 in rw (same-cell c i (p .0)) (word-put v (pred c) k b i m (inside (pred c) (p .1)) (omega arith) (omega arith))
   field-undone raises a b c p i m l = refl

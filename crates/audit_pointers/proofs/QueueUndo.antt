@@ -13,13 +13,15 @@ use Rattle.machine.specs.Counts.{pointers}
 use Rattle.machine.specs.Questions.{pointersWithin}
 use Rattle.machine.specs.Queue.{waiting}
 use Rattle.machine.specs.Range.{every}
-use Rattle.machine.specs.Table.{cellCount, capacity, wordAt}
+use Rattle.machine.specs.Table.{cellCount, capacity, scratchWords, wordAt}
 use Rattle.machine.specs.Words.{ceiling}
 use Rattle.machine.proofs.Range.{not-both, and-both, and-first, and-second}
 use Rattle.machine.proofs.Undo.{undoes-within}
 use Rattle.audit_packets.specs.Packets.{packetOn}
-use Rattle.audit_pointers.specs.Undo.{newer, stage, Counted, countWithin, countMatches, Stageable, Undoing, Undoable, UndoesPacket}
-use Rattle.audit_pointers.proofs.Earlier.{newer-step, newer-none, newer-all}
+use Rattle.audit_pointers.specs.EarlierFields.{newer}
+use Rattle.audit_pointers.specs.PointerCounts.{Counted, countWithin, countMatches}
+use Rattle.audit_pointers.specs.UndoStages.{stage, Stageable, Undoing, Undoable, UndoesPacket}
+use Rattle.audit_pointers.proofs.EarlierFields.{newer-step, newer-none, newer-all}
 use Rattle.audit_cells.proofs.Tests.{refuted, and-decides, every-same}
 
 module _ (t : List ℕ) (q : Queue) where
@@ -43,17 +45,15 @@ module _ (t : List ℕ) (q : Queue) where
         within = ap (λ (n : ℕ). pointersWithin (stage t q n)) e ∙ unfold stage in (undoes-within t (newer q j) (h .holds));
       }
 
+  -- the scratch keeps its length
+  stageable-kept : (s s′ : List ℕ) → Stageable t q s → length s′ ≡ length s → Stageable t q s′
+  stageable-kept s s′ a n = record { lent = record { shape = a .lent .shape; scratch = rw n (a .lent .scratch) }; legal = a .legal }
+
   pub undo-more : (j : ℕ) (s₀ s s′ : List ℕ) (r : Bool) → Undoing t q j s₀ s → 0 < j → UndoesPacket t q (j - 1) s s′ r → r ≡ true → length s′ ≡ length s → Undoing t q (j - 1) s₀ s′
   undo-more j s₀ s s′ r h l u k n =
       let m = h .some in
       let e : j - 1 + 1 ≡ j = omega arith in record {
-        able = record {
-          room = h .able .room;
-          place = h .able .place;
-          count = h .able .count;
-          enough = rw n (h .able .enough);
-          legal = h .able .legal;
-        };
+        able = stageable-kept s s′ (h .able) n;
         some = omega arith;
         holds = undoes-step (j - 1) (omega arith) ∙ and-both (ap (λ (i : ℕ). undoes t (newer q i)) e ∙ h .holds) (sym (u .answer) ∙ k);
         each = u .each k;
@@ -96,7 +96,7 @@ module _ (t : List ℕ) (q : Queue) where
 
   -- at the start the table as it stands
   module _ (c : ℕ) (s s₁ : List ℕ) (m : c ≡ capacity t) (h : Counted t c s s₁) where
-    pub start-past : drop (capacity t) s₁ ≡ drop (capacity t) s
+    pub start-past : drop (scratchWords (capacity t)) s₁ ≡ drop (scratchWords (capacity t)) s
     start-past = rw (← m) (h .past)
 
     start-within : every c (countWithin s₁) ≡ pointersWithin t
@@ -114,7 +114,7 @@ module _ (t : List ℕ) (q : Queue) where
 
     pub undo-start : every c (countWithin s₁) ≡ true → Stageable t q s → length s₁ ≡ length s → Undoing t q (q .count) s₁ s₁
     undo-start k a n = record {
-      able = record { room = a .room; place = a .place; count = a .count; enough = rw n (a .enough); legal = a .legal };
+      able = stageable-kept s s₁ a n;
       some = omega arith;
       holds = unfold undoes in (rw (newer-none q (q .count) refl) (sym start-within ∙ k));
       each = λ i l. h .each i (omega arith) ∙ ap (λ (v : List ℕ). pointers v (suc i)) none;
