@@ -1,13 +1,3 @@
--- Laws that join what the code tests to the machine's rules.
-
-pub mod Tests
-pub mod Cells
-pub mod Walk
-pub mod Words
-pub mod Replays
-pub mod Stages
-pub mod Pointed
-pub mod Tally
-pub mod Undone
-pub mod History
-pub mod Rules
+-- Laws that join what the code tests to rule S5 and to the machine's audit.
+pub mod Reached
+pub mod Verdict

@@ -2,9 +2,8 @@
 use mathlib.Core.Bool.{Bool, _||_}
 use mathlib.Core.List.{List}
 use Prim.Native.Nat.{ℕ}
-use lib.Dec.{ltb}
-use lib.ListN.{getD}
 use Rattle.machine.specs.Table.{isFree}
+use Rattle.marks.specs.Marks.{isMarked}
 
 unfoldable pub freeOrMarked : List ℕ → List ℕ → ℕ → Bool
-freeOrMarked t s i = isFree t i || ltb 0 (getD s i 0)
+freeOrMarked t s i = isFree t i || isMarked s i

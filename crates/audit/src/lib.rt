@@ -1,30 +1,22 @@
-// The audit: of any store at all, sound or the lowest-numbered rule broken. A module for each rule; each is exact where the rules before it hold,
-// which are asked first.
-mod chain;
-mod counts;
-mod earlier;
-mod fields;
-mod legality;
+// The audit: of any store at all, sound or the lowest-numbered rule broken. Each rule is exact where the rules before it hold, which are asked
+// first.
 mod live;
-mod packets;
-mod pointers;
-mod replay;
-mod slots;
 
-use chain::chain_sound;
-use collector::marks::clear;
-use fields::cells_sound;
+use audit_cells::chain::chain_sound;
+use audit_cells::fields::cells_sound;
+use audit_packets::packets_sound;
+use audit_pointers::pointers_sound;
 use live::all_reached;
+use machine::Asked;
 use machine::AuditAnswer;
 use machine::Queue;
-use machine::Refusal;
 use machine::Rule;
-use packets::packets_sound;
-use pointers::pointers_sound;
-ghost use Rattle.audit.specs.Contract.{Asked, Judged, Audited};
+use marks::clear;
+ghost use Rattle.machine.specs.Facts.{Lent};
+ghost use Rattle.audit.specs.Contract.{Judged, Audited};
 
 fn judge(table: &[u16], queue: Queue, scratch: &mut [u16]) -> AuditAnswer
-    requires { ⌜ Asked (now table) queue (now scratch) ⌝ }
+    requires { ⌜ Lent (now table) queue (now scratch) ⌝ }
     ensures { λ r. ⌜ Judged (now (table .entry)) queue (now (scratch .entry)) (now (scratch .exit)) r ⌝ }
 {
     if !cells_sound(table) {
@@ -45,17 +37,17 @@ fn judge(table: &[u16], queue: Queue, scratch: &mut [u16]) -> AuditAnswer
     AuditAnswer::Sound
 }
 
-// For any table, queue and scratch. The table is only read, and the scratch's first C words are 0 afterwards, also where a rule is broken.
+// For any table, queue and scratch. The table is only read, and the scratch's front is 0 afterwards, also where a rule is broken.
 pub fn audit_store(table: &[u16], queue: Queue, scratch: &mut [u16]) -> AuditAnswer
     ensures { λ r. ⌜ Audited (now (table .entry)) queue (now (scratch .entry)) (now (scratch .exit)) r ⌝ }
 {
-    if !questions::in_range(table, queue) {
-        return AuditAnswer::Refused(Refusal::StoreOutOfRange);
+    let asked = questions::lent(table, queue, scratch);
+    match asked {
+        Asked::Yes => {
+            let answer = judge(table, queue, scratch);
+            clear(scratch, cells::capacity_of(table));
+            answer
+        }
+        Asked::No(refusal) => AuditAnswer::Refused(refusal),
     }
-    if !questions::scratch_enough(table, scratch) {
-        return AuditAnswer::Refused(Refusal::ScratchTooShort);
-    }
-    let answer = judge(table, queue, scratch);
-    clear(scratch, cells::capacity_of(table));
-    answer
 }

@@ -1,68 +1,86 @@
+use mathlib.Core.Path.{_≡_, ap}
 use native.Mathlib.Omega.{arith}
 use borrow.Author.Needs.{needs}
-use Rattle.machine.specs.declared.Refusal.{Refusal}
-use Rattle.machine.specs.declared.Refusal
-use Rattle.machine.proofs.Questions.{shape-is}
-use Rattle.audit.proofs.Rules.{refused-1, refused-2, accepted-audit, asked, audited-refused, audited-judged}
-use Rattle.audit.proofs.Tests.{passed, failed}
+use Rattle.audit_pointers.proofs.PointerCounts.{scratch-of}
+use Rattle.audit.proofs.Verdict.{says-yes, says-no, asked-lent, audited-refused, audited-judged}
 use Rattle.audit.proofs.audit_store.Statement.{statement}
 use Rattle.audit.proofs.audit_store.Tie as tie
 
-in-range-requires : tie.Need-in-range-requires
-in-range-requires c κs = search needs
+lent-requires : tie.Need-lent-requires
+lent-requires c κs = search needs
 
-returns : tie.Need-returns
-returns c =
-    let i = c .before .before .before .before .args in
-    audited-refused (i .table .now) (i .queue) (i .scratch .now) (i .scratch .now) Refusal.StoreOutOfRange (refused-1 (i .table .now) (i .queue) (i .scratch .now) (failed (c .before .in-range .ensures) (c .if1 .taken)))
+enum-told : tie.Need-enum-told
+enum-told c = search needs
 
-scratch-enough-requires : tie.Need-scratch-enough-requires
-scratch-enough-requires c κs =
-    let i = c .before .before .before .before .before .args in
-    let h = shape-is (i .table .now) (i .queue) (passed (c .before .before .in-range .ensures) (c .before .if1 .left)) in omega (arith, h .room)
+judge-requires : tie.Need-judge-requires
+judge-requires c κs =
+    let at-told = c .before in
+    let at-lent = at-told .before .before in
+    let i = at-lent .before .before .before .before .args in
+    let yes = says-yes (i .table .now) (i .queue) (i .scratch .now) _ (at-lent .lent .ensures) (at-told .enum-told .given .1) in
+    asked-lent (i .table .now) (i .queue) (i .scratch .now) yes
+
+capacity-of-requires : tie.Need-capacity-of-requires
+capacity-of-requires c κs =
+    let at-told = c .before .before .before .before .before in
+    let at-lent = at-told .before .before in
+    let i = at-lent .before .before .before .before .args in
+    let yes = says-yes (i .table .now) (i .queue) (i .scratch .now) _ (at-lent .lent .ensures) (at-told .enum-told .given .1) in
+    let shape = asked-lent (i .table .now) (i .queue) (i .scratch .now) yes .shape .table in
+    omega (arith, shape .room)
+
+clear-requires : tie.Need-clear-requires
+clear-requires c κs =
+    let at-judge = c .before .before .before .before in
+    let at-told = at-judge .before .before in
+    let at-lent = at-told .before .before in
+    let i = at-lent .before .before .before .before .args in
+    let yes = says-yes (i .table .now) (i .queue) (i .scratch .now) _ (at-lent .lent .ensures) (at-told .enum-told .given .1) in
+    let lent = asked-lent (i .table .now) (i .queue) (i .scratch .now) yes in
+    let enough = scratch-of _ _ (i .table .now) (c .capacity-of .ensures) (lent .scratch) in
+    omega (arith, at-judge .judge .kept .1 .1 .0)
+
+enum-known-asked : tie.Need-enum-known-asked
+enum-known-asked c = search needs
 
 same-length : tie.Need-same-length
 same-length c = search needs
 
-returns-2 : tie.Need-returns-2
-returns-2 c =
-    let i = c .before .before .before .before .before .before .before .args in
-    audited-refused (i .table .now) (i .queue) (i .scratch .now) (i .scratch .now) Refusal.ScratchTooShort (refused-2 (i .table .now) (i .queue) (i .scratch .now) (passed (c .before .before .before .before .in-range .ensures) (c .before .before .before .if1 .left)) (failed (c .before .scratch-enough .ensures) (c .if2 .taken)))
-
-judge-requires : tie.Need-judge-requires
-judge-requires c κs =
-    let i = c .before .before .before .before .before .before .before .before .args in
-    asked (i .table .now) (i .queue) (i .scratch .now) (passed (c .before .before .before .before .before .in-range .ensures) (c .before .before .before .before .if1 .left)) (passed (c .before .before .scratch-enough .ensures) (c .before .if2 .left))
-
-capacity-of-requires : tie.Need-capacity-of-requires
-capacity-of-requires c κs =
-    let i = c .before .before .before .before .before .before .before .before .before .before .before .before .args in
-    let h = asked (i .table .now) (i .queue) (i .scratch .now) (passed (c .before .before .before .before .before .before .before .before .before .in-range .ensures) (c .before .before .before .before .before .before .before .before .if1 .left)) (passed (c .before .before .before .before .before .before .scratch-enough .ensures) (c .before .before .before .before .before .if2 .left)) in omega (arith, h .room .room)
-
-clear-requires : tie.Need-clear-requires
-clear-requires c κs =
-    let i = c .before .before .before .before .before .before .before .before .before .before .before .before .before .args in
-    let h = asked (i .table .now) (i .queue) (i .scratch .now) (passed (c .before .before .before .before .before .before .before .before .before .before .in-range .ensures) (c .before .before .before .before .before .before .before .before .before .if1 .left)) (passed (c .before .before .before .before .before .before .before .scratch-enough .ensures) (c .before .before .before .before .before .before .if2 .left)) in omega (arith, h .enough, c .before .before .before .before .judge .kept .1 .1 .0)
+returns : tie.Need-returns
+returns c =
+    let at-clear = c .before .before in
+    let at-capacity = at-clear .before in
+    let at-judge = at-capacity .before .before .before .before in
+    let at-told = at-judge .before .before in
+    let at-lent = at-told .before .before in
+    let i = at-lent .before .before .before .before .args in
+    let yes = says-yes (i .table .now) (i .queue) (i .scratch .now) _ (at-lent .lent .ensures) (at-told .enum-told .given .1) in
+    audited-judged (i .table .now) (i .queue) (i .scratch .now) yes _ _ _ _ (at-judge .judge .ensures) (at-capacity .capacity-of .ensures)
+    (at-clear .clear .ensures)
 
 same-length-2 : tie.Need-same-length-2
 same-length-2 c = search needs
 
-returns-3 : tie.Need-returns-3
-returns-3 c =
-    let i = c .before .before .before .before .before .before .before .before .before .before .before .before .before .before .before .before .args in
-    audited-judged (i .table .now) (i .queue) (i .scratch .now) _ _ _ _ (accepted-audit (i .table .now) (i .queue) (i .scratch .now) (passed (c .before .before .before .before .before .before .before .before .before .before .before .before .before .in-range .ensures) (c .before .before .before .before .before .before .before .before .before .before .before .before .if1 .left)) (passed (c .before .before .before .before .before .before .before .before .before .before .scratch-enough .ensures) (c .before .before .before .before .before .before .before .before .before .if2 .left))) (c .before .before .before .before .before .before .before .judge .ensures) (c .before .before .before .capacity-of .ensures) (c .before .before .clear .ensures)
+returns-2 : tie.Need-returns-2
+returns-2 c =
+    let at-asked = c .before in
+    let at-lent = at-asked .before .before in
+    let i = at-lent .before .before .before .before .args in
+    let no = at-asked .asked .given in
+    audited-refused (i .table .now) (i .queue) (i .scratch .now) (no .0 .0)
+    (says-no (i .table .now) (i .queue) (i .scratch .now) _ (no .0 .0) (at-lent .lent .ensures) (no .1))
 
 pub audit-store-spec : {M : Type 1} → statement M
 audit-store-spec =
     tie.close
     (tie.spec
-    in-range-requires
-    returns
-    scratch-enough-requires
-    same-length
-    returns-2
+    lent-requires
+    enum-told
     judge-requires
     capacity-of-requires
     clear-requires
+    enum-known-asked
+    same-length
+    returns
     same-length-2
-    returns-3)
+    returns-2)

@@ -1,9 +1,7 @@
 use mathlib.Core.Path.{refl, _∙_}
 use borrow.Author.Needs.{needs}
-use Rattle.machine.specs.declared.Rule.{Rule}
-use Rattle.machine.specs.declared.Rule
-use Rattle.audit.proofs.Rules.{packets-legal, broken-1, broken-2, broken-3, broken-4, broken-5, none-broken, judged-broken, judged-sound}
-use Rattle.audit.proofs.Tests.{passed, failed}
+use Rattle.audit_cells.proofs.Tests.{passed, failed}
+use Rattle.audit.proofs.Verdict.{packets-legal, cells-broken, chain-broken, packets-broken, pointers-broken, reached-broken, none-broken}
 use Rattle.audit.proofs.judge.Statement.{statement}
 use Rattle.audit.proofs.judge.Tie as tie
 
@@ -12,37 +10,63 @@ cells-sound-requires c κs = search needs
 
 returns : tie.Need-returns
 returns c =
-    let i = c .before .before .before .before .args in
-    judged-broken (i .table .now) (i .queue) (i .scratch .now) _ Rule.Cells (broken-1 (i .table .now) (i .queue) (failed (c .before .cells-sound .ensures) (c .if1 .taken))) refl
+    let at-cells = c .before in
+    let i = at-cells .before .before .before .args in
+    cells-broken (i .table .now) (i .queue) (i .scratch .now) (i .scratch .now) refl (failed (at-cells .cells-sound .ensures) (c .if1 .taken))
 
 chain-sound-requires : tie.Need-chain-sound-requires
 chain-sound-requires c κs = search needs
 
 returns-2 : tie.Need-returns-2
 returns-2 c =
-    let i = c .before .before .before .before .before .before .args in
-    judged-broken (i .table .now) (i .queue) (i .scratch .now) _ Rule.FreeChain (broken-2 (i .table .now) (i .queue) (passed (c .before .before .before .cells-sound .ensures) (c .before .before .if1 .left)) (failed (c .before .chain-sound .ensures) (c .if2 .taken))) refl
+    let at-chain = c .before in
+    let at-cells = at-chain .before .before in
+    let i = at-cells .before .before .before .args in
+    let cells = passed (at-cells .cells-sound .ensures) (at-chain .before .if1 .left) in
+    chain-broken (i .table .now) (i .queue) (i .scratch .now) (i .scratch .now) refl cells (failed (at-chain .chain-sound .ensures) (c .if2 .taken))
 
 packets-sound-requires : tie.Need-packets-sound-requires
-packets-sound-requires c κs = (c .before .before .before .before .before .before .pre .room, c .before .before .before .before .before .before .pre .place, c .before .before .before .before .before .before .pre .count, (passed (c .before .before .before .cells-sound .ensures) (c .before .before .if1 .left)))
+packets-sound-requires c κs =
+    let at-chain = c .before in
+    let at-cells = at-chain .before .before in
+    (at-cells .before .before .before .pre .shape, passed (at-cells .cells-sound .ensures) (at-chain .before .if1 .left))
 
 returns-3 : tie.Need-returns-3
 returns-3 c =
-    let i = c .before .before .before .before .before .before .before .before .args in
-    judged-broken (i .table .now) (i .queue) (i .scratch .now) _ Rule.Packets (broken-3 (i .table .now) (i .queue) (passed (c .before .before .before .before .before .cells-sound .ensures) (c .before .before .before .before .if1 .left)) (passed (c .before .before .before .chain-sound .ensures) (c .before .before .if2 .left)) (failed (c .before .packets-sound .ensures) (c .if3 .taken))) refl
+    let at-packets = c .before in
+    let at-chain = at-packets .before .before in
+    let at-cells = at-chain .before .before in
+    let i = at-cells .before .before .before .args in
+    let cells = passed (at-cells .cells-sound .ensures) (at-chain .before .if1 .left) in
+    let chain = passed (at-chain .chain-sound .ensures) (at-packets .before .if2 .left) in
+    let no = failed (at-packets .packets-sound .ensures) (c .if3 .taken) in
+    packets-broken (i .table .now) (i .queue) (i .scratch .now) (i .scratch .now) refl cells chain no
 
 pointers-sound-requires : tie.Need-pointers-sound-requires
 pointers-sound-requires c κs =
-    let h = c .before .before .before .before .before .before .before .before .before .pre in
-    record { room = h .room; place = h .place; count = h .count; enough = h .enough; legal = packets-legal _ _ (passed (c .before .before .packets-sound .ensures) (c .before .if3 .left)) }
+    let at-if3 = c .before in
+    let at-packets = at-if3 .before in
+    let at-cells = at-packets .before .before .before .before in
+    let start = at-cells .before .before .before in
+    let packets = passed (at-packets .packets-sound .ensures) (at-if3 .if3 .left) in
+    record { lent = start .pre; legal = packets-legal (start .args .table .now) (start .args .queue) packets }
 
 same-length : tie.Need-same-length
 same-length c = search needs
 
 returns-4 : tie.Need-returns-4
 returns-4 c =
-    let i = c .before .before .before .before .before .before .before .before .before .before .before .before .before .args in
-    judged-broken (i .table .now) (i .queue) (i .scratch .now) _ Rule.Pointers (broken-4 (i .table .now) (i .queue) (passed (c .before .before .before .before .before .before .before .before .before .before .cells-sound .ensures) (c .before .before .before .before .before .before .before .before .before .if1 .left)) (passed (c .before .before .before .before .before .before .before .before .chain-sound .ensures) (c .before .before .before .before .before .before .before .if2 .left)) (passed (c .before .before .before .before .before .before .packets-sound .ensures) (c .before .before .before .before .before .if3 .left)) (failed (c .before .before .before .pointers-sound .ensures .answer) (c .if4 .taken))) (c .before .before .before .pointers-sound .ensures .past)
+    let at-pointers = c .before .before .before in
+    let at-if3 = at-pointers .before .before in
+    let at-packets = at-if3 .before in
+    let at-chain = at-packets .before .before in
+    let at-cells = at-chain .before .before in
+    let i = at-cells .before .before .before .args in
+    let cells = passed (at-cells .cells-sound .ensures) (at-chain .before .if1 .left) in
+    let chain = passed (at-chain .chain-sound .ensures) (at-packets .before .if2 .left) in
+    let packets = passed (at-packets .packets-sound .ensures) (at-if3 .if3 .left) in
+    let no = failed (at-pointers .pointers-sound .ensures .answer) (c .if4 .taken) in
+    pointers-broken (i .table .now) (i .queue) (i .scratch .now) _ (at-pointers .pointers-sound .ensures .past) cells chain packets no
 
 all-reached-requires : tie.Need-all-reached-requires
 all-reached-requires c κs = search needs
@@ -52,16 +76,42 @@ same-length-2 c = search needs
 
 returns-5 : tie.Need-returns-5
 returns-5 c =
-    let i = c .before .before .before .before .before .before .before .before .before .before .before .before .before .before .before .before .before .before .args in
-    judged-broken (i .table .now) (i .queue) (i .scratch .now) _ Rule.Reached (broken-5 (i .table .now) (i .queue) (passed (c .before .before .before .before .before .before .before .before .before .before .before .before .before .before .before .cells-sound .ensures) (c .before .before .before .before .before .before .before .before .before .before .before .before .before .before .if1 .left)) (passed (c .before .before .before .before .before .before .before .before .before .before .before .before .before .chain-sound .ensures) (c .before .before .before .before .before .before .before .before .before .before .before .before .if2 .left)) (passed (c .before .before .before .before .before .before .before .before .before .before .before .packets-sound .ensures) (c .before .before .before .before .before .before .before .before .before .before .if3 .left)) (passed (c .before .before .before .before .before .before .before .before .pointers-sound .ensures .answer) (c .before .before .before .before .before .if4 .left)) (failed (c .before .before .before .all-reached .ensures .answer) (c .if5 .taken))) (c .before .before .before .all-reached .ensures .past ∙ c .before .before .before .before .before .before .before .before .pointers-sound .ensures .past)
+    let at-reached = c .before .before .before in
+    let at-if4 = at-reached .before .before in
+    let at-pointers = at-if4 .before .before .before in
+    let at-if3 = at-pointers .before .before in
+    let at-packets = at-if3 .before in
+    let at-chain = at-packets .before .before in
+    let at-cells = at-chain .before .before in
+    let i = at-cells .before .before .before .args in
+    let cells = passed (at-cells .cells-sound .ensures) (at-chain .before .if1 .left) in
+    let chain = passed (at-chain .chain-sound .ensures) (at-packets .before .if2 .left) in
+    let packets = passed (at-packets .packets-sound .ensures) (at-if3 .if3 .left) in
+    let pointers = passed (at-pointers .pointers-sound .ensures .answer) (at-if4 .if4 .left) in
+    let past = at-reached .all-reached .ensures .past ∙ at-pointers .pointers-sound .ensures .past in
+    let no = failed (at-reached .all-reached .ensures .answer) (c .if5 .taken) in
+    reached-broken (i .table .now) (i .queue) (i .scratch .now) _ past cells chain packets pointers no
 
 same-length-3 : tie.Need-same-length-3
 same-length-3 c = search needs
 
 returns-6 : tie.Need-returns-6
 returns-6 c =
-    let i = c .before .before .before .before .before .before .before .before .before .before .before .before .before .before .before .before .before .before .args in
-    judged-sound (i .table .now) (i .queue) (i .scratch .now) _ (none-broken (i .table .now) (i .queue) (passed (c .before .before .before .before .before .before .before .before .before .before .before .before .before .before .before .cells-sound .ensures) (c .before .before .before .before .before .before .before .before .before .before .before .before .before .before .if1 .left)) (passed (c .before .before .before .before .before .before .before .before .before .before .before .before .before .chain-sound .ensures) (c .before .before .before .before .before .before .before .before .before .before .before .before .if2 .left)) (passed (c .before .before .before .before .before .before .before .before .before .before .before .packets-sound .ensures) (c .before .before .before .before .before .before .before .before .before .before .if3 .left)) (passed (c .before .before .before .before .before .before .before .before .pointers-sound .ensures .answer) (c .before .before .before .before .before .if4 .left)) (passed (c .before .before .before .all-reached .ensures .answer) (c .if5 .left))) (c .before .before .before .all-reached .ensures .past ∙ c .before .before .before .before .before .before .before .before .pointers-sound .ensures .past)
+    let at-reached = c .before .before .before in
+    let at-if4 = at-reached .before .before in
+    let at-pointers = at-if4 .before .before .before in
+    let at-if3 = at-pointers .before .before in
+    let at-packets = at-if3 .before in
+    let at-chain = at-packets .before .before in
+    let at-cells = at-chain .before .before in
+    let i = at-cells .before .before .before .args in
+    let cells = passed (at-cells .cells-sound .ensures) (at-chain .before .if1 .left) in
+    let chain = passed (at-chain .chain-sound .ensures) (at-packets .before .if2 .left) in
+    let packets = passed (at-packets .packets-sound .ensures) (at-if3 .if3 .left) in
+    let pointers = passed (at-pointers .pointers-sound .ensures .answer) (at-if4 .if4 .left) in
+    let reached = passed (at-reached .all-reached .ensures .answer) (c .if5 .left) in
+    let past = at-reached .all-reached .ensures .past ∙ at-pointers .pointers-sound .ensures .past in
+    none-broken (i .table .now) (i .queue) (i .scratch .now) _ past cells chain packets pointers reached
 
 pub judge-spec : {M : Type 1} → statement M
 judge-spec =

@@ -1,12 +1,9 @@
 use mathlib.Core.Path.{_∙_}
 use borrow.Author.Needs.{needs}
 use Rattle.machine.specs.Queue.{waiting}
-use Rattle.audit.proofs.Rules.{marked-live}
+use Rattle.audit.proofs.Reached.{marked-reached}
 use Rattle.audit.proofs.live.all_reached.Statement.{statement}
 use Rattle.audit.proofs.live.all_reached.Tie as tie
-
-capacity-of-requires : tie.Need-capacity-of-requires
-capacity-of-requires c κs = search needs
 
 mark-requires : tie.Need-mark-requires
 mark-requires c κs = search needs
@@ -19,11 +16,11 @@ same-length c = search needs
 
 returns : tie.Need-returns
 returns c =
-    let i = c .before .before .before .before .before .before .before .before .before .args in
+    let i = c .before .before .before .before .before .before .before .before .args in
     let m = c .before .before .before .before .mark .ensures in
-    record { answer = c .used-marked .ensures ∙ marked-live (i .table .now) (waiting (i .queue)) _ (m .marks); past = m .past }
+    record { answer = c .used-marked .ensures ∙ marked-reached (i .table .now) (waiting (i .queue)) _ (m .marks); past = m .past }
 
 pub all-reached-spec : {M : Type 1} → statement M
 all-reached-spec =
     tie.close
-    (tie.spec capacity-of-requires mark-requires used-marked-requires same-length returns)
+    (tie.spec mark-requires used-marked-requires same-length returns)

@@ -1,0 +1,3 @@
+pub mod EarlierFields
+pub mod PointerCounts
+pub mod UndoStages
