@@ -28,7 +28,7 @@ use Rattle.machine.proofs.Kept.{machine-accepted, machine-refused}
 use Rattle.soundness.specs.Untrimmed.{Passes, AllPass, Untrimmed}
 use Rattle.soundness.proofs.Untrimmed.{untrimmed}
 use Rattle.collector.specs.declared.Stepped.{Stepped}
-use Rattle.collector.specs.Fitting.{ChangesFit}
+use Rattle.collector.specs.Changes.{ChangesFit}
 use Rattle.collector.specs.Steps.{oldest, Premises, Steps}
 
 -- a count at most one past the ceiling fits a word
