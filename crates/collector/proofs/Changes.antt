@@ -75,7 +75,9 @@ moves-lowered t k w n i v h e f t′ g = moves t k w minus n t′ (g ∙ same)
 
 pub moves-raised : (t : List ℕ) (k : Counter) (w n i v : ℕ) → isCell (capacity t) w ≡ true → i ≡ w - 1 → Raised (wordAt t i (counterWord k)) n v
     → (t′ : List ℕ) → t′ ≡ putWord t i (counterWord k) v → Moves t k w plus n t′
-moves-raised t k w n i v h e f t′ g = moves t k w plus n t′ (g ∙ ap (λ (j : ℕ). putWord t j (counterWord k) v) place ∙ ⊎-elim large small (tested (leb 65536 (wordAt t (pred w) (counterWord k) + n))))
+moves-raised t k w n i v h e f t′ g =
+    moves t k w plus n t′
+    (g ∙ ap (λ (j : ℕ). putWord t j (counterWord k) v) place ∙ ⊎-elim large small (tested (leb 65536 (wordAt t (pred w) (counterWord k) + n))))
   where
     place : i ≡ pred w
     place = omega arith
@@ -90,7 +92,8 @@ moves-raised t k w n i v h e f t′ g = moves t k w plus n t′ (g ∙ ap (λ (j
     small b = unfold moveFitting moveCount in rw (b, h, r .fits (borrow.Author.Tests.leb-false 65536 _ b))
 
 -- a change that fits is made whole
-move-fits : (t : List ℕ) (k : Counter) (w : ℕ) (d : Direction) (n : ℕ) → (isCell (capacity t) w ≡ true → shifted d (wordAt t (pred w) (counterWord k)) n < 65536)
+move-fits : (t : List ℕ) (k : Counter) (w : ℕ) (d : Direction) (n : ℕ)
+    → (isCell (capacity t) w ≡ true → shifted d (wordAt t (pred w) (counterWord k)) n < 65536)
     → moveFitting t k w d n ≡ moveCount t k w d n
 move-fits t k w minus n f = unfold moveFitting in refl
 move-fits t k w plus n f = ⊎-elim cell none (tested (isCell (capacity t) w))
@@ -108,6 +111,16 @@ apply-fits t (h ∷ hs) f =
     ap (λ (u : List ℕ). applyFitting u hs) (move-fits t (h .counter) (h .word) (h .direction) (h .amount) (f .0))
     ∙ apply-fits (moveCount t (h .counter) (h .word) (h .direction) (h .amount)) hs (f .1)
 
--- a packet's changes, by its kind
-pub applied : (t t′ : List ℕ) (kind a b : ℕ) (k : Kind) → kindOf kind ≡ k → t′ ≡ applyFitting t (changesOf k a b) → t′ ≡ applyFitting t (changesOf (kindOf kind) a b)
+-- a packet's changes, one after another and by its kind
+pub made-none : (t : List ℕ) → t ≡ applyFitting t []
+unfolding applyFitting
+made-none t = refl
+
+pub made-more : (t u v : List ℕ) (h : Change) (hs : List Change) → Moves t (h .counter) (h .word) (h .direction) (h .amount) u
+    → v ≡ applyFitting u hs → v ≡ applyFitting t (h ∷ hs)
+unfolding applyFitting
+made-more t u v h hs m e = e ∙ ap (λ (x : List ℕ). applyFitting x hs) (m .moved)
+
+pub applied : (t t′ : List ℕ) (kind a b : ℕ) (k : Kind) → kindOf kind ≡ k → t′ ≡ applyFitting t (changesOf k a b)
+    → t′ ≡ applyFitting t (changesOf (kindOf kind) a b)
 applied t t′ kind a b k e h = rw e h

@@ -74,7 +74,8 @@ root-move t root h j e f l d =
     count-move t root (h .word) (h .direction) (h .amount) f j l ∙ rw (matching-other (h .word) (suc j) (h .amount) d) (shifted-none (h .direction) (wordAt t j rootCount))
 root-move t cell h j e f l d = word-move t cell (h .word) (h .direction) (h .amount) j rootCount (omega arith) (omega arith)
 
-root-kept : (t : List ℕ) (hs : List Change) (j : ℕ) → tableLength (capacity t) ≤ length t → j < capacity t → Elsewhere j hs → wordAt (applyChanges t hs) j rootCount ≡ wordAt t j rootCount
+root-kept : (t : List ℕ) (hs : List Change) (j : ℕ) → tableLength (capacity t) ≤ length t → j < capacity t → Elsewhere j hs
+    → wordAt (applyChanges t hs) j rootCount ≡ wordAt t j rootCount
 unfolding applyChanges
 root-kept t [] j f l e = refl
 root-kept t (h ∷ hs) j f l e =
@@ -86,7 +87,9 @@ root-kept t (h ∷ hs) j f l e =
 pub capacity-kept : (t : List ℕ) (hs : List Change) → capacity (applyChanges t hs) ≡ capacity t
 unfolding applyChanges
 capacity-kept t [] = refl
-capacity-kept t (h ∷ hs) = capacity-kept (moveCount t (h .counter) (h .word) (h .direction) (h .amount)) hs ∙ capacity-move t (h .counter) (h .word) (h .direction) (h .amount)
+capacity-kept t (h ∷ hs) =
+    capacity-kept (moveCount t (h .counter) (h .word) (h .direction) (h .amount)) hs ∙ capacity-move t (h .counter) (h .word) (h .direction)
+    (h .amount)
 
 module _ (t : List ℕ) (p : Packet) (ps : List Packet) (f : tableLength (capacity t) ≤ length t) where
   abbrev t′ : List ℕ
@@ -106,7 +109,8 @@ module _ (t : List ℕ) (p : Packet) (ps : List Packet) (f : tableLength (capaci
 
     edge-kept : (j i : ℕ) → pointsTo t j i ≡ true → pointsTo t′ j i ≡ true
     unfolding pointsTo
-    edge-kept j i e = rw (word-kept t (changes p) j left (omega arith) (omega arith) (omega arith), word-kept t (changes p) j right (omega arith) (omega arith) (omega arith)) e
+    edge-kept j i e =
+        rw (word-kept t (changes p) j left (omega arith) (omega arith) (omega arith), word-kept t (changes p) j right (omega arith) (omega arith) (omega arith)) e
 
     below : {i : ℕ} → i < capacity t → i < capacity t′
     below l = rw (capacity-kept t (changes p)) l
@@ -124,7 +128,9 @@ module _ (t : List ℕ) (p : Packet) (ps : List Packet) (f : tableLength (capaci
         used i = unfold inUse in rw (word-kept t (changes p) i state (omega arith) (omega arith) (omega arith))
 
         none : (i : ℕ) → i < capacity t′ → inUse t′ i && not (reached t′ ps i) ≡ false
-        none i l = ⊎-elim free busy (or-true (isFree t i) (reached t (p ∷ ps) i) (every-at (capacity t) (λ j. isFree t j || reached t (p ∷ ps) j) live i (rw (capacity-kept t (changes p)) at l)))
+        none i l =
+            ⊎-elim free busy
+            (or-true (isFree t i) (reached t (p ∷ ps) i) (every-at (capacity t) (λ j. isFree t j || reached t (p ∷ ps) j) live i (rw (capacity-kept t (changes p)) at l)))
           where
             free : isFree t i ≡ true → inUse t′ i && not (reached t′ ps i) ≡ false
             free e = rw (used i, free-not-in-use t i e)

@@ -60,9 +60,11 @@ collects t ps s s₁ t′ s′ c n e m w f = record {
 fitting-some : (t : List ℕ) (hs : List Change) → (gs : List Change) × (applyFitting t hs ≡ applyChanges t gs)
 unfolding applyFitting applyChanges moveFitting
 fitting-some t [] = ([], refl)
-fitting-some t (h ∷ hs) = (go (tooLarge (h .direction) _ (h .amount)) (fitting-some t hs) (fitting-some (moveCount t (h .counter) (h .word) (h .direction) (h .amount)) hs))
+fitting-some t (h ∷ hs) =
+    (go (tooLarge (h .direction) _ (h .amount)) (fitting-some t hs) (fitting-some (moveCount t (h .counter) (h .word) (h .direction) (h .amount)) hs))
   where
-    go : (b : Bool) → (gs : List Change) × (applyFitting t hs ≡ applyChanges t gs) → (gs : List Change) × (applyFitting (moveCount t (h .counter) (h .word) (h .direction) (h .amount)) hs ≡ applyChanges (moveCount t (h .counter) (h .word) (h .direction) (h .amount)) gs)
+    go : (b : Bool) → (gs : List Change) × (applyFitting t hs ≡ applyChanges t gs)
+        → (gs : List Change) × (applyFitting (moveCount t (h .counter) (h .word) (h .direction) (h .amount)) hs ≡ applyChanges (moveCount t (h .counter) (h .word) (h .direction) (h .amount)) gs)
         → (gs : List Change) × (applyFitting (cond b t (moveCount t (h .counter) (h .word) (h .direction) (h .amount))) hs ≡ applyChanges t gs)
     go true g f = g
     go false g f = (h ∷ f .0, f .1)
@@ -125,7 +127,8 @@ module _ (t : List ℕ) (q : Queue) (s : List ℕ) (h : Lent t q s) (some : 0 < 
   unfolding stepped
   stepped-is = rw oldest-first (unfold stepFrom in refl)
 
-  exact : Premises t q → outcome (applied (p .kind) (freedNumber t₁ ps p)) (store (collected t₁ ps p) (taken q) (cleared (scratchWords (capacity t)) s)) ≡ stepped (store t q s)
+  exact : Premises t q
+      → outcome (applied (p .kind) (freedNumber t₁ ps p)) (store (collected t₁ ps p) (taken q) (cleared (scratchWords (capacity t)) s)) ≡ stepped (store t q s)
   exact m =
       rw (collected-is m, number-is m, ← framed-fitting t (changes p) .sameCapacity, apply-fits t (changes p) (m .fit), stepped-is)
       (unfold stepWith in refl)
@@ -246,7 +249,8 @@ module _ (t : List ℕ) (q : Queue) (s : List ℕ) (h : Lent t q s) (k a b d : �
   stays-is : (o x : Bool) → o ≡ stays → o ≡ x → stayRoots (applyFitting t (changes (oldest q))) (waiting (taken q)) (oldest q) ≡ x
   stays-is o x u y = rw (applied-oldest, g, e) at (sym u ∙ y)
 
-  pub short : (o : Bool) → o ≡ stays → o ≡ true → (c : ℕ) → c ≡ capacity t → (s′ : List ℕ) → s′ ≡ cleared (scratchWords c) s → (r : Stepped) → r .answer ≡ StepAnswer.Applied k 0 → r .queue ≡ rest
+  pub short : (o : Bool) → o ≡ stays → o ≡ true → (c : ℕ) → c ≡ capacity t → (s′ : List ℕ) → s′ ≡ cleared (scratchWords c) s → (r : Stepped)
+      → r .answer ≡ StepAnswer.Applied k 0 → r .queue ≡ rest
       → Applies t q s r t₁ s′
   short o u x c i s′ y r z w = record {
     table = applied-oldest ∙ (unfold collected in rw (stays-is o true u x));
@@ -255,7 +259,8 @@ module _ (t : List ℕ) (q : Queue) (s : List ℕ) (h : Lent t q s) (k a b d : �
     scratch = y ∙ ap (λ (n : ℕ). cleared (scratchWords n) s) i;
   }
 
-  pub long : (o : Bool) → o ≡ stays → o ≡ false → (t′ s′ : List ℕ) (n : ℕ) → Collects t₁ (waiting rest) s t′ s′ n → (r : Stepped) → r .answer ≡ StepAnswer.Applied k n → r .queue ≡ rest
+  pub long : (o : Bool) → o ≡ stays → o ≡ false → (t′ s′ : List ℕ) (n : ℕ) → Collects t₁ (waiting rest) s t′ s′ n → (r : Stepped)
+      → r .answer ≡ StepAnswer.Applied k n → r .queue ≡ rest
       → Applies t q s r t′ s′
   long o u x t′ s′ n y r z w = record {
     table = y .table ∙ rw (applied-oldest, g) (unfold collected in rw (stays-is o false u x));

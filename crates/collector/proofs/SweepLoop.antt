@@ -23,12 +23,14 @@ module _ (t : List ℕ) (i last : ℕ) (h : last ≡ lastFree t) (u : List ℕ) 
   unfolding join
   append-none z v e = e ∙ rw (wiped, eq-eqb (lastFree t) 0 (sym h ∙ z), add-one i)
 
-  pub append-some : (last ≡ 0 → ⊥) → (first : ℕ) → first ≡ firstFree t → (v w : List ℕ) → v ≡ putWord u (last - 1) left (i + 1) → w ≡ putEnds v first (i + 1) → w ≡ join t i
+  pub append-some : (last ≡ 0 → ⊥) → (first : ℕ) → first ≡ firstFree t → (v w : List ℕ) → v ≡ putWord u (last - 1) left (i + 1)
+      → w ≡ putEnds v first (i + 1) → w ≡ join t i
   unfolding join
   append-some d first g v w e f = f ∙ rw (e, g, wiped, h, ne-eqb (lastFree t) 0 (λ z. d (h ∙ z)), add-one i, sub-one (lastFree t))
 
 -- a cell freed
-pub free-is : (t : List ℕ) (i l r : ℕ) → r ≡ wordAt t i right → (u v w : List ℕ) → Moves t cell l minus 1 u → Moves u cell r minus 1 v → w ≡ join v i → w ≡ freed t i l
+pub free-is : (t : List ℕ) (i l r : ℕ) → r ≡ wordAt t i right → (u v w : List ℕ) → Moves t cell l minus 1 u → Moves u cell r minus 1 v → w ≡ join v i
+    → w ≡ freed t i l
 free-is t i l r e u v w f g h = h ∙ rw (g .moved, f .moved, e) (unfold freed moveFitting in refl)
 
 pub end-none : (t : List ℕ) (end : ℕ) → end ≡ 0 → 0 ≡ endLeft t end
@@ -67,22 +69,26 @@ good t h = record { cells = refl; shape = h }
 
 module _ (t s : List ℕ) (h : TableShape t) (n : ℕ) (l : n < capacity t) where
   -- the pass has come to index n
-  pub at-cell : scratchWords (capacity t) ≤ length s → (u : List ℕ) → u ≡ passedTo t s n → TableShape u × (n < capacity u) × (scratchWords (capacity u) ≤ length s)
+  pub at-cell : scratchWords (capacity t) ≤ length s → (u : List ℕ) → u ≡ passedTo t s n
+      → TableShape u × (n < capacity u) × (scratchWords (capacity u) ≤ length s)
   at-cell k u e =
       let g = passed-good t s (capacity t) (good t h) n l in
       rw e (g .shape, rw (g .cells) l, rw (g .cells) k)
 
   -- one cell more
-  pub pass-table : (u u′ : List ℕ) (end w r : ℕ) → u ≡ passedTo t s n → end ≡ lastFree t → w ≡ endLeft t end → Passes u s n end w u′ r → u′ ≡ passedTo t s (n + 1)
+  pub pass-table : (u u′ : List ℕ) (end w r : ℕ) → u ≡ passedTo t s n → end ≡ lastFree t → w ≡ endLeft t end → Passes u s n end w u′ r
+      → u′ ≡ passedTo t s (n + 1)
   pass-table u u′ end w r e f g p =
       p .table ∙ rw (e, g, f, add-one n) (passed-more t s (capacity t) (good t h) n l)
 
-  pub pass-number : (u u′ : List ℕ) (end w r m : ℕ) → u ≡ passedTo t s n → Passes u s n end w u′ r → m ≡ length (select n (isDead t s)) → m + r ≡ length (select (n + 1) (isDead t s))
+  pub pass-number : (u u′ : List ℕ) (end w r m : ℕ) → u ≡ passedTo t s n → Passes u s n end w u′ r → m ≡ length (select n (isDead t s))
+      → m + r ≡ length (select (n + 1) (isDead t s))
   pass-number u u′ end w r m e p k =
       let d : r ≡ cond (isDead t s n) 1 0 = p .number ∙ ap (λ (b : Bool). cond b 1 0) (ap (λ (v : List ℕ). isDead v s n) e ∙ still-dead t s (capacity t) (good t h) n l) in
       rw (k, d, add-one n) (sym (length-select n (isDead t s)))
 
-pub sweeps-all : (t s : List ℕ) → TableShape t → (n : ℕ) → n ≡ capacity t → (u : List ℕ) (m : ℕ) → u ≡ passedTo t s n → m ≡ length (select n (isDead t s)) → Sweeps t s u m
+pub sweeps-all : (t s : List ℕ) → TableShape t → (n : ℕ) → n ≡ capacity t → (u : List ℕ) (m : ℕ) → u ≡ passedTo t s n
+    → m ≡ length (select n (isDead t s)) → Sweeps t s u m
 sweeps-all t s h n e u m f k = record {
   table = f ∙ ap (passedTo t s) e ∙ passed-all t s (capacity t) (good t h);
   number = k ∙ ap (λ (i : ℕ). length (select i (isDead t s))) e;

@@ -90,7 +90,8 @@ module _ (c : ℕ) (t : List ℕ) (g : Good c t) (i : ℕ) (h : i < c) where
   unfolding lower
   join-lower j l d =
       let t₁ = moveCount t cell l minus 1 in
-      ap₂ (λ (u : List ℕ) (w : ℕ). moveCount u cell w minus 1) (join-move t i l 1 room-of below last-of) (join-word j right (omega arith) d (λ x. absurd (omega arith)))
+      ap₂ (λ (u : List ℕ) (w : ℕ). moveCount u cell w minus 1) (join-move t i l 1 room-of below last-of)
+      (join-word j right (omega arith) d (λ x. absurd (omega arith)))
       ∙ join-move t₁ i (wordAt t j right) 1 (rw (capacity-move t cell l minus 1, length-move t cell l minus 1) room-of)
       (rw (capacity-move t cell l minus 1) below) (rw (lastFree-move t cell l minus 1, capacity-move t cell l minus 1) last-of)
 
@@ -224,7 +225,9 @@ module _ (t s : List ℕ) where
     module _ (n : ℕ) (h : n < c) where
       here : Stands lefts c t n (passedTo n)
       unfolding passedTo
-      here = stands lefts c t g (select n (isDead t s)) (places-wider n c (select n (isDead t s)) (omega arith) (select-places n (isDead t s))) n (without-below n (select n (isDead t s)) (select-places n (isDead t s)))
+      here =
+          stands lefts c t g (select n (isDead t s)) (places-wider n c (select n (isDead t s)) (omega arith) (select-places n (isDead t s))) n
+          (without-below n (select n (isDead t s)) (select-places n (isDead t s)))
 
       -- a cell that the pass has not come to is dead as before, and its left word is known
       pub still-dead : isDead (passedTo n) s n ≡ isDead t s n
@@ -235,17 +238,20 @@ module _ (t s : List ℕ) where
       unfolding leftBefore endLeft
       left-known = ⊎-elim (λ e. end (eqb-true (suc n) (lastFree t) e)) (λ e. other e (eqb-false (suc n) (lastFree t) e)) (tested (eqb (suc n) (lastFree t)))
         where
-          end : suc n ≡ lastFree t → cond (eqb (suc n) (lastFree t)) (cond (eqb (lastFree t) 0) 0 (wordAt t (pred (lastFree t)) left)) (wordAt (passedTo n) n left) ≡ wordAt t n left
+          end : suc n ≡ lastFree t
+              → cond (eqb (suc n) (lastFree t)) (cond (eqb (lastFree t) 0) 0 (wordAt t (pred (lastFree t)) left)) (wordAt (passedTo n) n left) ≡ wordAt t n left
           end e = rw (eq-eqb (suc n) (lastFree t) e, ne-eqb (lastFree t) 0 (λ z. omega arith)) (ap (λ (i : ℕ). wordAt t i left) (omega arith))
 
-          other : eqb (suc n) (lastFree t) ≡ false → (suc n ≡ lastFree t → ⊥) → cond (eqb (suc n) (lastFree t)) (cond (eqb (lastFree t) 0) 0 (wordAt t (pred (lastFree t)) left)) (wordAt (passedTo n) n left) ≡ wordAt t n left
+          other : eqb (suc n) (lastFree t) ≡ false → (suc n ≡ lastFree t → ⊥)
+              → cond (eqb (suc n) (lastFree t)) (cond (eqb (lastFree t) 0) 0 (wordAt t (pred (lastFree t)) left)) (wordAt (passedTo n) n left) ≡ wordAt t n left
           other e d = rw e (here .lefts d)
 
       pub passed-more : passed (passedTo n) s (lastFree t) (endLeft t (lastFree t)) n ≡ passedTo (suc n)
       unfolding passed freed
       passed-more = rw (still-dead, left-known) (go (isDead t s n) refl)
         where
-          go : (b : Bool) → isDead t s n ≡ b → cond b (join (moveCount (moveCount (passedTo n) cell (wordAt t n left) minus 1) cell (wordAt (passedTo n) n right) minus 1) n) (passedTo n) ≡ passedTo (suc n)
+          go : (b : Bool) → isDead t s n ≡ b
+              → cond b (join (moveCount (moveCount (passedTo n) cell (wordAt t n left) minus 1) cell (wordAt (passedTo n) n right) minus 1) n) (passedTo n) ≡ passedTo (suc n)
           go true e = unfold passedTo select in rw e (sym (unfold lower in freeAll-snoc lefts t (select n (isDead t s)) n))
           go false e = unfold passedTo select in rw (e, append-nil)
 

@@ -82,10 +82,14 @@ module _ (c : ℕ) (start : ℕ → Bool) (t : List ℕ) where
     got = h .earned p (f .place) (lt-ltb 0 (getD (st .words) p 0) (omega (arith, f .linked)))
 
     got-left : isCell c (wordAt t p left) ≡ true → Got (pred (wordAt t p left))
-    got-left e = onward got (cell-place c (wordAt t p left) e) (unfold pointsTo in or-left (eqb (wordAt t p right) (suc (pred (wordAt t p left)))) (eq-eqb (wordAt t p left) (suc (pred (wordAt t p left))) (cell-number c (wordAt t p left) e)))
+    got-left e =
+        onward got (cell-place c (wordAt t p left) e)
+        (unfold pointsTo in or-left (eqb (wordAt t p right) (suc (pred (wordAt t p left)))) (eq-eqb (wordAt t p left) (suc (pred (wordAt t p left))) (cell-number c (wordAt t p left) e)))
 
     got-right : isCell c (wordAt t p right) ≡ true → Got (pred (wordAt t p right))
-    got-right e = onward got (cell-place c (wordAt t p right) e) (unfold pointsTo in or-right (eqb (wordAt t p left) (suc (pred (wordAt t p right)))) (eq-eqb (wordAt t p right) (suc (pred (wordAt t p right))) (cell-number c (wordAt t p right) e)))
+    got-right e =
+        onward got (cell-place c (wordAt t p right) e)
+        (unfold pointsTo in or-right (eqb (wordAt t p left) (suc (pred (wordAt t p right)))) (eq-eqb (wordAt t p right) (suc (pred (wordAt t p right))) (cell-number c (wordAt t p right) e)))
 
     abbrev one : Stack
     one = pushed c (wordAt t p left) (popped st)

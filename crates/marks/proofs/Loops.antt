@@ -43,12 +43,14 @@ pub rooted-none : (t : List ℕ) (c : ℕ) (st : Stack) → st .top ≤ c → Pu
 unfolding pushedRooted
 rooted-none t c st l = record { same = refl; below = l }
 
-pub rooted-more : (t : List ℕ) (c i : ℕ) (st u v : Stack) → Pushes c u (pushedRooted t c i st) → Pushes c v (pushedIfRooted t c i u) → Pushes c v (pushedRooted t c (i + 1) st)
+pub rooted-more : (t : List ℕ) (c i : ℕ) (st u v : Stack) → Pushes c u (pushedRooted t c i st) → Pushes c v (pushedIfRooted t c i u)
+    → Pushes c v (pushedRooted t c (i + 1) st)
 rooted-more t c i st u v p q = record { same = q .same ∙ ap (pushedIfRooted t c i) (p .same) ∙ (unfold pushedRooted in rw add-one); below = q .below }
 
 pub three-pushed : (c x y z : ℕ) (ws : List ℕ) → x ∷ y ∷ z ∷ [] ≡ ws → (st u v w : Stack)
     → Pushes c u (pushed c x st) → Pushes c v (pushed c y u) → Pushes c w (pushed c z v) → Pushes c w (pushedAll c ws st)
-three-pushed c x y z ws e st u v w p q r = record { same = r .same ∙ ap (pushed c z) (q .same) ∙ ap (λ (a : Stack). pushed c z (pushed c y a)) (p .same) ∙ (unfold pushedAll in rw (← e)); below = r .below }
+three-pushed c x y z ws e st u v w p q r =
+    record { same = r .same ∙ ap (pushed c z) (q .same) ∙ ap (λ (a : Stack). pushed c z (pushed c y a)) (p .same) ∙ (unfold pushedAll in rw (← e)); below = r .below }
 
 pushedNamed-snoc : (c : ℕ) (ps : List Packet) (p : Packet) (st : Stack) → pushedNamed c (ps ++ (p ∷ [])) st ≡ pushedAll c (threeNames p) (pushedNamed c ps st)
 unfolding pushedNamed
@@ -98,7 +100,8 @@ module _ (t : List ℕ) (q : Queue) (s : List ℕ) (h : Lent t q s) (c : ℕ) (c
   abbrev start : Stack
   start = ready t (waiting q) s (h .scratch)
 
-  pub made-ready : (u v w : Stack) → u ≡ stack (cleared (scratchWords c) s) 0 → Pushes c v (pushedRooted t c c u) → Pushes c w (pushedNamed c (waiting q) v) → w ≡ start
+  pub made-ready : (u v w : Stack) → u ≡ stack (cleared (scratchWords c) s) 0 → Pushes c v (pushedRooted t c c u)
+      → Pushes c w (pushedNamed c (waiting q) v) → w ≡ start
   made-ready u v w e p r = r .same ∙ rw (p .same, e, cells)
 
   pub ready-followable : (w : Stack) → w ≡ start → Followable c t w

@@ -83,7 +83,8 @@ unfolding isNamed
 isNamed-snoc [] p w = or-false (contains (names p) w)
 isNamed-snoc (r ∷ ps) p w = go (contains (names r) w) (isNamed-snoc ps p w)
   where
-    go : (b : Bool) → isNamed (ps ++ (p ∷ [])) w ≡ isNamed ps w || contains (names p) w → b || isNamed (ps ++ (p ∷ [])) w ≡ b || isNamed ps w || contains (names p) w
+    go : (b : Bool) → isNamed (ps ++ (p ∷ [])) w ≡ isNamed ps w || contains (names p) w
+        → b || isNamed (ps ++ (p ∷ [])) w ≡ b || isNamed ps w || contains (names p) w
     go true h = refl
     go false h = h
 

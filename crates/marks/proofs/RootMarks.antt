@@ -48,7 +48,9 @@ module _ (c w : ℕ) (st : Stack) (h : scratchWords c ≤ length (st .words)) (i
   met-pushed = push-cases (λ r. met r i ≡ met st i || eqb w (suc i)) c w st none push
     where
       none : unmet c w (st .words) ≡ false → met st i ≡ met st i || eqb w (suc i)
-      none f = ⊎-elim (λ (e : eqb w (suc i) ≡ true). rw (e, met-before f (eqb-true w (suc i) e))) (λ e. or-other (met st i) (eqb-false w (suc i) e)) (tested (eqb w (suc i)))
+      none f =
+          ⊎-elim (λ (e : eqb w (suc i) ≡ true). rw (e, met-before f (eqb-true w (suc i) e))) (λ e. or-other (met st i) (eqb-false w (suc i) e))
+          (tested (eqb w (suc i)))
 
       push : Unmet c w (st .words) → ltb 0 (getD (set (st .words) (pred w) (st .top + 2)) i 0) ≡ met st i || eqb w (suc i)
       push u = ⊎-elim (λ e. here (eqb-true w (suc i) e)) (λ e. elsewhere (eqb-false w (suc i) e)) (tested (eqb w (suc i)))

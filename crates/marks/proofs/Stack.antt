@@ -41,7 +41,9 @@ unmet-is c w s h =
 -- what both outcomes of a push have
 pub push-cases : (P : Stack → Type 0) (c w : ℕ) (st : Stack) → (unmet c w (st .words) ≡ false → P st)
     → (Unmet c w (st .words) → P (stack (set (st .words) (pred w) (st .top + 2)) w)) → P (pushed c w st)
-push-cases P c w st f g = ⊎-elim (λ (e : unmet c w (st .words) ≡ true). unfold pushed in rw e (g (unmet-is c w (st .words) e))) (λ (e : unmet c w (st .words) ≡ false). unfold pushed in rw e (f e)) (tested (unmet c w (st .words)))
+push-cases P c w st f g =
+    ⊎-elim (λ (e : unmet c w (st .words) ≡ true). unfold pushed in rw e (g (unmet-is c w (st .words) e)))
+    (λ (e : unmet c w (st .words) ≡ false). unfold pushed in rw e (f e)) (tested (unmet c w (st .words)))
 
 contains-none : (i : ℕ) → contains [] i ≡ true → ⊥
 unfolding contains
@@ -52,7 +54,9 @@ module _ (c : ℕ) (s : List ℕ) where
   member-linked : (w : ℕ) (is : List ℕ) → Chained c s w is → (i : ℕ) → contains is i ≡ true → 2 ≤ getD s i 0
   member-linked w [] h i m = absurd (contains-none i m)
   member-linked w (j ∷ is) h i m =
-      ⊎-elim (λ e. let same : j ≡ i = eqb-true j i e in rw same at (h .2)) (λ e. member-linked (getD s j 0 - 2) is (h .4) i e) (or-true (eqb j i) (contains is i) (rw contains-cons at m))
+      ⊎-elim (λ e. let same : j ≡ i =
+      eqb-true j i e in rw same at (h .2)) (λ e. member-linked (getD s j 0 - 2) is (h .4) i e) (or-true (eqb j i) (contains is i)
+      (rw contains-cons at m))
 
   -- a write elsewhere keeps the thread
   chained-set : (w : ℕ) (is : List ℕ) (i v : ℕ) → Chained c s w is → contains is i ≡ false → Chained c (set s i v) w is
@@ -83,10 +87,14 @@ threaded-pushed c w st h = push-cases (Threaded c) c w st (λ _. h) push
         back = omega arith
 
         new : contains (h .pending) (pred w) ≡ false
-        new = ⊎-elim (λ e. absurd (omega (arith, member-linked c (st .words) (st .top) (h .pending) (h .chained) (pred w) e, u .zero))) (λ e. e) (tested (contains (h .pending) (pred w)))
+        new =
+            ⊎-elim (λ e. absurd (omega (arith, member-linked c (st .words) (st .top) (h .pending) (h .chained) (pred w) e, u .zero))) (λ e. e)
+            (tested (contains (h .pending) (pred w)))
 
         all : (i : ℕ) → i < c → 2 ≤ getD (set (st .words) (pred w) (st .top + 2)) i 0 → contains (pred w ∷ h .pending) i ≡ true
-        all i l g = rw contains-cons (⊎-elim (λ e. or-left (contains (h .pending) i) e) (λ e. or-right (eqb (pred w) i) (h .all i l (rw (getD-set-other (st .words) (pred w) i (st .top + 2) 0 (λ x. eqb-false (pred w) i e (sym x))) at g))) (tested (eqb (pred w) i)))
+        all i l g =
+            rw contains-cons
+            (⊎-elim (λ e. or-left (contains (h .pending) i) e) (λ e. or-right (eqb (pred w) i) (h .all i l (rw (getD-set-other (st .words) (pred w) i (st .top + 2) 0 (λ x. eqb-false (pred w) i e (sym x))) at g))) (tested (eqb (pred w) i)))
 
 -- the first pending cell taken off
 abbrev pub popped : Stack → Stack
@@ -123,7 +131,8 @@ first c st h l = go (h .pending) (h .chained) (h .all)
         others j m g = ⊎-elim here elsewhere (tested (eqb i j))
           where
             here : eqb i j ≡ true → contains is j ≡ true
-            here e = absurd (omega (arith, rw (← eqb-true i j e, getD-set-same (st .words) i 1 0 (word-within c i (length (st .words)) (ch .1) (h .enough))) at g))
+            here e =
+                absurd (omega (arith, rw (← eqb-true i j e, getD-set-same (st .words) i 1 0 (word-within c i (length (st .words)) (ch .1) (h .enough))) at g))
 
             elsewhere : eqb i j ≡ false → contains is j ≡ true
             elsewhere e =
@@ -179,10 +188,13 @@ pub done-before : (c w : ℕ) (st : Stack) → Threaded c st → (i : ℕ) → i
 done-before c w st h i l = push-cases (λ r. getD (r .words) i 0 ≡ 1 → getD (st .words) i 0 ≡ 1) c w st (λ _ e. e) push
   where
     push : Unmet c w (st .words) → getD (set (st .words) (pred w) (st .top + 2)) i 0 ≡ 1 → getD (st .words) i 0 ≡ 1
-    push u e = ⊎-elim (λ x. absurd (here (eqb-true (pred w) i x))) (λ x. sym (getD-set-other (st .words) (pred w) i (st .top + 2) 0 (λ y. eqb-false (pred w) i x (sym y))) ∙ e) (tested (eqb (pred w) i))
+    push u e =
+        ⊎-elim (λ x. absurd (here (eqb-true (pred w) i x)))
+        (λ x. sym (getD-set-other (st .words) (pred w) i (st .top + 2) 0 (λ y. eqb-false (pred w) i x (sym y))) ∙ e) (tested (eqb (pred w) i))
       where
         here : pred w ≡ i → ⊥
-        here x = omega (arith, e, getD-set-same (st .words) i (st .top + 2) 0 (word-within c i (length (st .words)) l (h .enough)), ap (λ (j : ℕ). getD (set (st .words) j (st .top + 2)) i 0) x)
+        here x =
+            omega (arith, e, getD-set-same (st .words) i (st .top + 2) 0 (word-within c i (length (st .words)) l (h .enough)), ap (λ (j : ℕ). getD (set (st .words) j (st .top + 2)) i 0) x)
 
 -- words past the scratch of c cells stand
 pub past-pushed : (c w : ℕ) (st : Stack) → drop (scratchWords c) (pushed c w st .words) ≡ drop (scratchWords c) (st .words)

@@ -62,7 +62,8 @@ returns c =
     let s = at-capacity-of .before .before .before .before in
     short (s .args .table .now) (s .args .queue) (s .args .scratch .now) (s .pre .0) _ _ _ _ (at-packet-at .packet-at .ensures) _
     (at-apply .apply .ensures) _ (at-take .take .ensures)
-    (at-stay-roots .stay-roots .result) (at-stay-roots .stay-roots .ensures) (at-if1 .if1 .taken) _ (at-capacity-of .capacity-of .ensures) _ (c .before .before .clear .ensures) _ refl refl
+    (at-stay-roots .stay-roots .result) (at-stay-roots .stay-roots .ensures) (at-if1 .if1 .taken) _ (at-capacity-of .capacity-of .ensures) _
+    (c .before .before .clear .ensures) _ refl refl
 
 same-length-3 : tie.Need-same-length-3
 same-length-3 c = search needs
