@@ -78,14 +78,6 @@ module _ (t : List ℕ) (q : Queue) (n x y : ℕ) where
       three : numberInRange n ≡ false → ⊥
       three e = ⊎-elim (λ a. omega (arith, words-3 a e)) (λ a. omega (arith, words-1 a)) (tested (inRange t q))
 
-  pub cell-yes : wordsNumber t q n x y ≡ 0 → isCell (capacity t) x ≡ true → cellNumber t q n x y ≡ 0
-  unfolding cellNumber
-  cell-yes h e = rw (h, e)
-
-  pub cell-5 : wordsNumber t q n x y ≡ 0 → isCell (capacity t) x ≡ false → cellNumber t q n x y ≡ 5
-  unfolding cellNumber
-  cell-5 h e = rw (h, e)
-
 pub first-both : (a b : ℕ) → firstOf a b ≡ 0 → (a ≡ 0) × (b ≡ 0)
 first-both zero b h = (refl, h)
 first-both (suc a) b h = absurd (omega arith)
@@ -163,3 +155,11 @@ module _ (t : List ℕ) (q : Queue) (n x y : ℕ) (r : Asked) (yes : r ≡ Asked
 
   pub words-ready : askedNumber r ≡ wordsNumber t q n x y → Shape t q
   words-ready h = words-shape t q n x y (sym (asked-yes h yes))
+
+  pub cell-yes : askedNumber r ≡ wordsNumber t q n x y → isCell (capacity t) x ≡ true → 0 ≡ cellNumber t q n x y
+  unfolding cellNumber
+  cell-yes h e = rw (← (asked-yes h yes), e)
+
+  pub cell-5 : askedNumber r ≡ wordsNumber t q n x y → isCell (capacity t) x ≡ false → 5 ≡ cellNumber t q n x y
+  unfolding cellNumber
+  cell-5 h e = rw (← (asked-yes h yes), e)

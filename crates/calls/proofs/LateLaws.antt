@@ -162,7 +162,7 @@ read-late t q x w sx sw same hx tx tw e =
     rw (six, nine, and-true (heldAfter sw 1 same))
 
 -- a cons of x and y
-pub cons-late : (t : List ℕ) (q : Queue) (x y z : ℕ) (sx sy : Sums) (same : ℕ) → TallyOf t (waiting q) x sx → TallyOf t (waiting q) y sy
+cons-late : (t : List ℕ) (q : Queue) (x y z : ℕ) (sx sy : Sums) (same : ℕ) → TallyOf t (waiting q) x sx → TallyOf t (waiting q) y sy
     → same ≡ matching y x 1 → firstNo (codeLate t q (packet 2 x y z)) ≡ consNumber q sx sy same (firstFree t)
 unfolding codeLate firstNo freeByEnd kindOf raisedWithin raisedWords uses usesOf changes changesOf movedBy everyOf
 cons-late t q x y z sx sy same tx ty e =
@@ -174,8 +174,13 @@ cons-late t q x y z sx sy same tx ty e =
     pointers-after t (waiting q) y sy ty p (1 + same) 0 (omega (arith, matching-same y y 1 refl, matching-turned x y)) (omega arith) (λ _. omega arith) in
     rw (six, ten-x, ten-y, and-true (pointersAfter sy (1 + same) 0), refused-and (heldTimes sx (1 + same)) (heldTimes sy (1 + same)), refused-and)
 
+pub cons-asked : (t : List ℕ) (q : Queue) (x y : ℕ) (sx sy : Sums) (same first a : ℕ) → TallyOf t (waiting q) x sx → TallyOf t (waiting q) y sy
+    → same ≡ matching y x 1 → first ≡ firstFree t → a ≡ consNumber q sx sy same first → a ≡ firstNo (codeLate t q (packet 2 x y (firstFree t)))
+cons-asked t q x y sx sy same first a tx ty e f z =
+    z ∙ ap (consNumber q sx sy same) f ∙ sym (cons-late t q x y (firstFree t) sx sy same tx ty e)
+
 -- a replace in x by y that detaches d, of either kind
-pub replace-late : (t : List ℕ) (q : Queue) (n field y d x : ℕ) (sy sx : Sums) (same kept : ℕ) → kindOf n ≡ replaces field → TallyOf t (waiting q) y sy
+replace-late : (t : List ℕ) (q : Queue) (n field y d x : ℕ) (sy sx : Sums) (same kept : ℕ) → kindOf n ≡ replaces field → TallyOf t (waiting q) y sy
     → TallyOf t (waiting q) x sx → same ≡ matching x y 1 → kept ≡ matching d y 1 → firstNo (codeLate t q (packet n y d x)) ≡ replaceNumber q sy sx same kept
 unfolding codeLate firstNo freeByEnd raisedWithin raisedWords uses usesOf changes changesOf movedBy everyOf
 replace-late t q n field y d x sy sx same kept h ty tx e g =
