@@ -1,20 +1,18 @@
 -- Questions 1 to 5 as chains of numbers: which number each "no" gives, what follows where there is none, and that the chains are the machine's lists.
 use mathlib.Core.Path.{_≡_, refl, sym, ap, _∙_}
 use mathlib.Core.Logic.{⊎-elim}
-use mathlib.Core.Bool.{Bool, true, false, not, _&&_}
-use mathlib.Core.List.{List, [], _∷_, _++_}
+use mathlib.Core.Bool.{Bool, true, false, not}
+use mathlib.Core.List.{List}
 use Prim.Native.Nat.{ℕ, zero, suc, _-_, _≤_}
 use native.Mathlib.Omega.{arith}
 use lib.Dec.{leb}
 use lib.ListN.{length}
 use borrow.Author.Tests.{leb-true, not-true, not-false}
 use Rattle.machine.specs.declared.Queue.{Queue}
-use Rattle.machine.specs.Range.{everyOf}
-use Rattle.machine.specs.Words.{isNil, isCell, isLegal, ceiling}
+use Rattle.machine.specs.Words.{isCell, isLegal, ceiling}
 use Rattle.machine.specs.Table.{capacity, tableLength}
-use Rattle.machine.specs.Calls.{RowCall, car, cdr, cons, setLeft, setRight, up, down, row, store}
-use Rattle.machine.specs.Questions.{Question, firstNo, refusedBy, inRange, numberInRange, wordsLegal, xIsCell, earlyRow, early}
-use Rattle.machine.proofs.Range.{tested, and-first, and-second}
+use Rattle.machine.specs.Questions.{refusedBy, inRange, numberInRange, early}
+use Rattle.machine.proofs.Range.{tested, and-first}
 use Rattle.machine.specs.Facts.{Shape}
 use Rattle.machine.specs.declared.Asked
 use Rattle.machine.specs.declared.Asked.{Asked}
