@@ -2,8 +2,8 @@
 use mathlib.Core.Path.{_≡_, refl, sym, ap, ap₂, _∙_}
 use mathlib.Core.Logic.{⊎-elim, inl, inr}
 use mathlib.Core.Bool.{Bool, true, false, cond, _&&_}
-use mathlib.Core.List.{List, [], _∷_, _++_}
-use Prim.Native.Nat.{ℕ, zero, suc, pred, _-_, _≤_, _<_}
+use mathlib.Core.List.{List, [], _++_}
+use Prim.Native.Nat.{ℕ, zero, suc, _-_, _≤_}
 use native.Mathlib.Omega.{arith}
 use lib.Dec.{eqb}
 use Rattle.machine.specs.declared.Queue.{Queue}
@@ -14,14 +14,13 @@ use Rattle.machine.specs.Range.{everyOf}
 use Rattle.machine.specs.Words.{isNil, isCell, isLegal}
 use Rattle.machine.specs.Table.{left, right, capacity, firstFree, wordAt}
 use Rattle.machine.specs.Queue.{Packet, packet}
-use Rattle.machine.specs.Packets.{kindOf}
-use Rattle.machine.specs.Calls.{RowCall, car, cdr, cons, setLeft, setRight, up, down, row, store, field, packetOf}
+use Rattle.machine.specs.Calls.{RowCall, cons, up, down, row, store, field, packetOf}
 use Rattle.machine.specs.Questions.{Question, firstNo, refusedBy, inRange, numberInRange, wordsLegal, xIsCell, earlyRow, early}
 use Rattle.machine.specs.Answers.{askedNumber}
 use Rattle.machine.proofs.Lists.{and-true}
 use Rattle.machine.proofs.Questions.{Numbered, firstNo-append, firstNo-none, early-numbered}
 use Rattle.calls.specs.Early.{wordsNumber, firstOf, cellNumber, Replaces}
-use Rattle.calls.specs.Tests.{freeByEnd, codeLate, codeQuestions}
+use Rattle.calls.specs.Tests.{codeLate, codeQuestions}
 use Rattle.calls.specs.Called.{readCall, replaceCall, ReplaceKind}
 use Rattle.calls.proofs.EarlyLaws.{early-first, late-first}
 
@@ -33,7 +32,8 @@ first-append ks ls h = go (firstNo ks) refl
     go zero e = firstNo-none ks ls h e ∙ sym (ap (λ (a : ℕ). firstOf a (firstNo ls)) e)
     go (suc n) e = firstNo-append ks ls n e ∙ sym (ap (λ (a : ℕ). firstOf a (firstNo ls)) e)
 
-pub questions-split : (t : List ℕ) (q : Queue) (r : RowCall) → firstNo (codeQuestions t q r) ≡ firstOf (firstNo (early (store t q []) (row r))) (firstNo (codeLate t q (packetOf t r)))
+pub questions-split : (t : List ℕ) (q : Queue) (r : RowCall)
+    → firstNo (codeQuestions t q r) ≡ firstOf (firstNo (early (store t q []) (row r))) (firstNo (codeLate t q (packetOf t r)))
 unfolding codeQuestions
 questions-split t q r = first-append (early (store t q []) (row r)) (codeLate t q (packetOf t r)) (early-numbered (store t q []) (row r))
 
@@ -43,7 +43,8 @@ one-cell true true c = refl
 one-cell true false c = refl
 one-cell false b c = refl
 
-number-cell : (a n b c : Bool) → refusedBy a 1 (refusedBy n 3 (refusedBy b 4 (refusedBy c 5 0))) ≡ firstOf (refusedBy a 1 (refusedBy n 3 (refusedBy b 4 0))) (refusedBy c 5 0)
+number-cell : (a n b c : Bool)
+    → refusedBy a 1 (refusedBy n 3 (refusedBy b 4 (refusedBy c 5 0))) ≡ firstOf (refusedBy a 1 (refusedBy n 3 (refusedBy b 4 0))) (refusedBy c 5 0)
 number-cell true true true c = refl
 number-cell true true false c = refl
 number-cell true false b c = refl
@@ -79,8 +80,10 @@ module _ (t : List ℕ) (q : Queue) where
 
   early-replace : (k x y : ℕ) → k ≤ right → firstNo (early (store t q []) (row (replaceCall k x y))) ≡ cellNumber t q 1 x y
   unfolding firstNo early earlyRow wordsLegal xIsCell everyOf cellNumber wordsNumber numberInRange
-  early-replace zero x y l = rw (and-true (isLegal (capacity t) y)) (one-cell (inRange t q) (isLegal (capacity t) x && isLegal (capacity t) y) (isCell (capacity t) x))
-  early-replace (suc zero) x y l = rw (and-true (isLegal (capacity t) y)) (one-cell (inRange t q) (isLegal (capacity t) x && isLegal (capacity t) y) (isCell (capacity t) x))
+  early-replace zero x y l =
+      rw (and-true (isLegal (capacity t) y)) (one-cell (inRange t q) (isLegal (capacity t) x && isLegal (capacity t) y) (isCell (capacity t) x))
+  early-replace (suc zero) x y l =
+      rw (and-true (isLegal (capacity t) y)) (one-cell (inRange t q) (isLegal (capacity t) x && isLegal (capacity t) y) (isCell (capacity t) x))
   early-replace (suc (suc k)) x y l = absurd (omega arith)
 
   early-up : (x n : ℕ) → firstNo (early (store t q []) (row (up x n))) ≡ cellNumber t q n x 0
@@ -117,7 +120,8 @@ module _ (t : List ℕ) (q : Queue) where
       → firstNo (codeQuestions t q (replaceCall k x y)) ≡ firstOf (cellNumber t q 1 x y) (firstNo (codeLate t q (packet kind y d x)))
   replace-questions k kind x y d l h e =
       questions-split t q (replaceCall k x y)
-      ∙ ap₂ (λ (a : ℕ) (p : Packet). firstOf a (firstNo (codeLate t q p))) (early-replace k x y l) (replace-packet k kind x y h ∙ ap (λ (w : ℕ). packet kind y w x) (sym e))
+      ∙ ap₂ (λ (a : ℕ) (p : Packet). firstOf a (firstNo (codeLate t q p))) (early-replace k x y l)
+      (replace-packet k kind x y h ∙ ap (λ (w : ℕ). packet kind y w x) (sym e))
 
   pub up-questions : (x n : ℕ) → firstNo (codeQuestions t q (up x n)) ≡ firstOf (cellNumber t q n x 0) (firstNo (codeLate t q (packet 4 x n 0)))
   unfolding packetOf

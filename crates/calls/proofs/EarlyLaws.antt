@@ -1,20 +1,18 @@
 -- Questions 1 to 5 as chains of numbers: which number each "no" gives, what follows where there is none, and that the chains are the machine's lists.
 use mathlib.Core.Path.{_≡_, refl, sym, ap, _∙_}
 use mathlib.Core.Logic.{⊎-elim}
-use mathlib.Core.Bool.{Bool, true, false, not, _&&_}
-use mathlib.Core.List.{List, [], _∷_, _++_}
+use mathlib.Core.Bool.{Bool, true, false, not}
+use mathlib.Core.List.{List}
 use Prim.Native.Nat.{ℕ, zero, suc, _-_, _≤_}
 use native.Mathlib.Omega.{arith}
 use lib.Dec.{leb}
 use lib.ListN.{length}
 use borrow.Author.Tests.{leb-true, not-true, not-false}
 use Rattle.machine.specs.declared.Queue.{Queue}
-use Rattle.machine.specs.Range.{everyOf}
-use Rattle.machine.specs.Words.{isNil, isCell, isLegal, ceiling}
+use Rattle.machine.specs.Words.{isCell, isLegal, ceiling}
 use Rattle.machine.specs.Table.{capacity, tableLength}
-use Rattle.machine.specs.Calls.{RowCall, car, cdr, cons, setLeft, setRight, up, down, row, store}
-use Rattle.machine.specs.Questions.{Question, firstNo, refusedBy, inRange, numberInRange, wordsLegal, xIsCell, earlyRow, early}
-use Rattle.machine.proofs.Range.{tested, and-first, and-second}
+use Rattle.machine.specs.Questions.{refusedBy, inRange, numberInRange, early}
+use Rattle.machine.proofs.Range.{tested, and-first}
 use Rattle.machine.specs.Facts.{Shape}
 use Rattle.machine.specs.declared.Asked
 use Rattle.machine.specs.declared.Asked.{Asked}
@@ -77,14 +75,6 @@ module _ (t : List ℕ) (q : Queue) (n x y : ℕ) where
     where
       three : numberInRange n ≡ false → ⊥
       three e = ⊎-elim (λ a. omega (arith, words-3 a e)) (λ a. omega (arith, words-1 a)) (tested (inRange t q))
-
-  pub cell-yes : wordsNumber t q n x y ≡ 0 → isCell (capacity t) x ≡ true → cellNumber t q n x y ≡ 0
-  unfolding cellNumber
-  cell-yes h e = rw (h, e)
-
-  pub cell-5 : wordsNumber t q n x y ≡ 0 → isCell (capacity t) x ≡ false → cellNumber t q n x y ≡ 5
-  unfolding cellNumber
-  cell-5 h e = rw (h, e)
 
 pub first-both : (a b : ℕ) → firstOf a b ≡ 0 → (a ≡ 0) × (b ≡ 0)
 first-both zero b h = (refl, h)
@@ -163,3 +153,11 @@ module _ (t : List ℕ) (q : Queue) (n x y : ℕ) (r : Asked) (yes : r ≡ Asked
 
   pub words-ready : askedNumber r ≡ wordsNumber t q n x y → Shape t q
   words-ready h = words-shape t q n x y (sym (asked-yes h yes))
+
+  pub cell-yes : askedNumber r ≡ wordsNumber t q n x y → isCell (capacity t) x ≡ true → 0 ≡ cellNumber t q n x y
+  unfolding cellNumber
+  cell-yes h e = rw (← (asked-yes h yes), e)
+
+  pub cell-5 : askedNumber r ≡ wordsNumber t q n x y → isCell (capacity t) x ≡ false → 5 ≡ cellNumber t q n x y
+  unfolding cellNumber
+  cell-5 h e = rw (← (asked-yes h yes), e)

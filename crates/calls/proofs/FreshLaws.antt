@@ -2,7 +2,7 @@
 use mathlib.Core.Path.{_≡_, refl, sym, ap, ap₂, _∙_}
 use mathlib.Core.Bool.{Bool, true, false, cond}
 use mathlib.Core.List.{List, [], _∷_}
-use Prim.Native.Nat.{ℕ, zero, suc, _+_, _≤_, _<_}
+use Prim.Native.Nat.{ℕ, suc, _+_, _≤_}
 use native.Mathlib.Omega.{arith}
 use native.Mathlib.Numerals.{add-one}
 use lib.Dec.{leb, eqb}
@@ -16,8 +16,8 @@ use Rattle.machine.specs.declared.Refusal
 use Rattle.machine.specs.Words.{mostCells}
 use Rattle.machine.specs.Table.{freeCell, tableLength, putEnds, putCell}
 use Rattle.machine.specs.Queue.{emptyQueue}
-use Rattle.machine.specs.Calls.{fresh, chained, freshTable, store, value, refused}
-use Rattle.machine.specs.Step.{Outcome, outcome}
+use Rattle.machine.specs.Calls.{fresh, chained, freshTable, store}
+use Rattle.machine.specs.Step.{Outcome}
 use Rattle.machine.specs.Questions.{ask, firstNo, longEnough, cellsInRange, early, late, questions}
 use Rattle.machine.specs.Machine.{accepted, answered, machine}
 use Rattle.machine.proofs.Range.{and-first, and-second}
@@ -50,7 +50,8 @@ unfolding longEnough
 words-are c t h = leb-true (tableLength c) (length t) h
 
 module _ (t : List ℕ) (q : Queue) (c : ℕ) where
-  fresh-first : (a b : Bool) → cellsInRange c ≡ a → longEnough c t ≡ b → machine (store t q []) (fresh c) ≡ answered (firstNo (ask 3 a ∷ ask 1 b ∷ [])) (store t q []) (fresh c)
+  fresh-first : (a b : Bool) → cellsInRange c ≡ a → longEnough c t ≡ b
+      → machine (store t q []) (fresh c) ≡ answered (firstNo (ask 3 a ∷ ask 1 b ∷ [])) (store t q []) (fresh c)
   unfolding machine questions early late
   fresh-first a b e d = ap₂ (λ (x y : Bool). answered (firstNo (ask 3 x ∷ ask 1 y ∷ [])) (store t q []) (fresh c)) e d
 
@@ -74,7 +75,8 @@ module _ (t : List ℕ) (q : Queue) (c : ℕ) where
         queue = sym (ap (λ (x : Outcome). x .after .queue) o);
       }
 
-  pub fresh-done : (t′ : List ℕ) (q′ : Queue) → cellsInRange c ≡ true → longEnough c t ≡ true → t′ ≡ freshTable c t → q′ ≡ emptyQueue → FreshCalled t q c FreshAnswer.Done t′ q′
+  pub fresh-done : (t′ : List ℕ) (q′ : Queue) → cellsInRange c ≡ true → longEnough c t ≡ true → t′ ≡ freshTable c t → q′ ≡ emptyQueue
+      → FreshCalled t q c FreshAnswer.Done t′ q′
   unfolding answered accepted firstNo
   fresh-done t′ q′ a b e d =
       let o = fresh-first true true a b in

@@ -1,20 +1,19 @@
 -- Questions 6 to 10 of each call, by its operands' sums: no code here.
 use mathlib.Core.Path.{_≡_, refl, sym, ap, ap₂, _∙_}
 use mathlib.Core.Logic.{⊎-elim}
-use mathlib.Core.Bool.{Bool, true, false, cond, not, _&&_, _||_, false≢true}
-use mathlib.Core.List.{List, [], _∷_, _++_}
-use Prim.Native.Nat.{ℕ, zero, suc, pred, _+_, _≤_, _<_}
+use mathlib.Core.Bool.{Bool, true, false, not, _&&_, _||_}
+use mathlib.Core.List.{List, [], _∷_}
+use Prim.Native.Nat.{ℕ, suc, pred, _+_, _≤_, _<_}
 use native.Mathlib.Omega.{arith}
-use lib.Dec.{leb, ltb, eqb}
+use lib.Dec.{eqb}
 use borrow.Author.Tests.{eqb-true, eqb-false, eq-eqb, ne-eqb, le-leb}
 use Rattle.machine.specs.declared.Queue.{Queue}
 use Rattle.machine.specs.Range.{every, matching, everyOf}
 use Rattle.machine.specs.Words.{isCell, ceiling}
-use Rattle.machine.specs.Table.{left, right, capacity, firstFree, wordAt}
-use Rattle.machine.specs.Queue.{Packet, packet, slots, waiting}
-use Rattle.machine.specs.Packets.{Counter, root, cell, plus, minus, replaces, kindOf, usesOf, uses, changesOf, changes, movedBy, waitingChange, contains}
+use Rattle.machine.specs.Table.{left, right, capacity, firstFree}
+use Rattle.machine.specs.Queue.{Packet, packet, waiting}
+use Rattle.machine.specs.Packets.{Counter, root, cell, plus, minus, replaces, kindOf, usesOf, uses, changesOf, changes, movedBy, contains}
 use Rattle.machine.specs.Counts.{heldAtLeast}
-use Rattle.machine.specs.Step.{counterWord}
 use Rattle.machine.specs.Questions.{firstNo, refusedBy, heldEnough}
 use Rattle.machine.proofs.Range.{tested, not-both, or-left, or-false, every-at, every-all, matching-same, matching-other}
 use Rattle.machine.proofs.Lists.{and-true, everyOf-at, everyOf-all}
@@ -35,7 +34,8 @@ abbrev wordHeld : List ℕ → List Packet → Packet → ℕ → Bool
 wordHeld t ps p w = not (isCell (capacity t) w) || (eqb (uses p w) 0 || heldAtLeast t ps (pred w) (uses p w))
 
 -- question 6 is asked of the words that the call names
-held-words : (t : List ℕ) (ps : List Packet) (p : Packet) (ws : List ℕ) → ((y : ℕ) → contains ws y ≡ false → uses p y ≡ 0) → heldEnough t ps p ≡ everyOf ws (wordHeld t ps p)
+held-words : (t : List ℕ) (ps : List Packet) (p : Packet) (ws : List ℕ) → ((y : ℕ) → contains ws y ≡ false → uses p y ≡ 0)
+    → heldEnough t ps p ≡ everyOf ws (wordHeld t ps p)
 unfolding heldEnough
 held-words t ps p ws none = bool-same (every (capacity t) test) (everyOf ws (wordHeld t ps p)) there back
   where
@@ -43,21 +43,27 @@ held-words t ps p ws none = bool-same (every (capacity t) test) (everyOf ws (wor
     test i = eqb (uses p (suc i)) 0 || heldAtLeast t ps i (uses p (suc i))
 
     there : every (capacity t) test ≡ true → everyOf ws (wordHeld t ps p) ≡ true
-    there h = everyOf-all ws (wordHeld t ps p) (λ w m. ⊎-elim (λ (e : isCell (capacity t) w ≡ true). inside w e) (λ (e : isCell (capacity t) w ≡ false). rw e) (tested (isCell (capacity t) w)))
+    there h = everyOf-all ws (wordHeld t ps p) (λ w m. ⊎-elim (inside w) (outside w) (tested (isCell (capacity t) w)))
       where
         inside : (w : ℕ) → isCell (capacity t) w ≡ true → wordHeld t ps p w ≡ true
         inside w e =
             let k = every-at (capacity t) test h (pred w) (cell-place (capacity t) w e) in
             rw e (rw (← (cell-number (capacity t) w e)) at k)
 
+        outside : (w : ℕ) → isCell (capacity t) w ≡ false → wordHeld t ps p w ≡ true
+        outside w e = rw e
+
     back : everyOf ws (wordHeld t ps p) ≡ true → every (capacity t) test ≡ true
-    back h = every-all (capacity t) test (λ i l. ⊎-elim (λ m. named i l m) (λ m. or-left (heldAtLeast t ps i (uses p (suc i))) (eq-eqb (uses p (suc i)) 0 (none (suc i) m))) (tested (contains ws (suc i))))
+    back h = every-all (capacity t) test (λ i l. ⊎-elim (named i l) (unnamed i) (tested (contains ws (suc i))))
       where
         named : (i : ℕ) → i < capacity t → contains ws (suc i) ≡ true → test i ≡ true
         named i l m =
             let k : wordHeld t ps p (suc i) ≡ true = everyOf-at ws (wordHeld t ps p) (suc i) h m in
             let d : pred (suc i) ≡ i = omega arith in
             rw (place-cell (capacity t) i l, d) at k
+
+        unnamed : (i : ℕ) → contains ws (suc i) ≡ false → test i ≡ true
+        unnamed i m = or-left (heldAtLeast t ps i (uses p (suc i))) (eq-eqb (uses p (suc i)) 0 (none (suc i) m))
 
 -- question 6 at a word that the call names n times
 word-held : (t : List ℕ) (ps : List Packet) (w r l : ℕ) → CounterTally root 2 t ps w r l → (p : Packet) (n : ℕ) → uses p w ≡ n → 1 ≤ n
@@ -144,12 +150,14 @@ two-held t ps p x z sx sz same hx hz u e =
 held-after : (t : List ℕ) (ps : List Packet) (w : ℕ) (s : Sums) → TallyOf t ps w s → (p : Packet) (more less : ℕ) → movedBy root plus w (changes p) ≡ more
     → movedBy root minus w (changes p) ≡ less → (isCell (capacity t) w ≡ false → more ≤ 2)
     → not (isCell (capacity t) w) || countWithin root t ps p (pred w) ≡ heldAfter s more less
-held-after t ps w s h p more less a b small = word-within root 2 t ps w (s .held .raised) (s .held .lowered) (h .held) p more less a b (omega arith) small
+held-after t ps w s h p more less a b small =
+    word-within root 2 t ps w (s .held .raised) (s .held .lowered) (h .held) p more less a b (omega arith) small
 
 pointers-after : (t : List ℕ) (ps : List Packet) (w : ℕ) (s : Sums) → TallyOf t ps w s → (p : Packet) (more less : ℕ) → movedBy cell plus w (changes p) ≡ more
     → movedBy cell minus w (changes p) ≡ less → (isCell (capacity t) w ≡ false → more ≤ 2)
     → not (isCell (capacity t) w) || countWithin cell t ps p (pred w) ≡ pointersAfter s more less
-pointers-after t ps w s h p more less a b small = word-within cell 0 t ps w (s .pointers .raised) (s .pointers .lowered) (h .pointers) p more less a b (omega arith) small
+pointers-after t ps w s h p more less a b small =
+    word-within cell 0 t ps w (s .pointers .raised) (s .pointers .lowered) (h .pointers) p more less a b (omega arith) small
 
 -- a read of x that gives w
 pub read-late : (t : List ℕ) (q : Queue) (x w : ℕ) (sx sw : Sums) (same : ℕ) → isCell (capacity t) x ≡ true → TallyOf t (waiting q) x sx
@@ -162,7 +170,7 @@ read-late t q x w sx sw same hx tx tw e =
     rw (six, nine, and-true (heldAfter sw 1 same))
 
 -- a cons of x and y
-pub cons-late : (t : List ℕ) (q : Queue) (x y z : ℕ) (sx sy : Sums) (same : ℕ) → TallyOf t (waiting q) x sx → TallyOf t (waiting q) y sy
+cons-late : (t : List ℕ) (q : Queue) (x y z : ℕ) (sx sy : Sums) (same : ℕ) → TallyOf t (waiting q) x sx → TallyOf t (waiting q) y sy
     → same ≡ matching y x 1 → firstNo (codeLate t q (packet 2 x y z)) ≡ consNumber q sx sy same (firstFree t)
 unfolding codeLate firstNo freeByEnd kindOf raisedWithin raisedWords uses usesOf changes changesOf movedBy everyOf
 cons-late t q x y z sx sy same tx ty e =
@@ -174,8 +182,13 @@ cons-late t q x y z sx sy same tx ty e =
     pointers-after t (waiting q) y sy ty p (1 + same) 0 (omega (arith, matching-same y y 1 refl, matching-turned x y)) (omega arith) (λ _. omega arith) in
     rw (six, ten-x, ten-y, and-true (pointersAfter sy (1 + same) 0), refused-and (heldTimes sx (1 + same)) (heldTimes sy (1 + same)), refused-and)
 
+pub cons-asked : (t : List ℕ) (q : Queue) (x y : ℕ) (sx sy : Sums) (same first a : ℕ) → TallyOf t (waiting q) x sx → TallyOf t (waiting q) y sy
+    → same ≡ matching y x 1 → first ≡ firstFree t → a ≡ consNumber q sx sy same first → a ≡ firstNo (codeLate t q (packet 2 x y (firstFree t)))
+cons-asked t q x y sx sy same first a tx ty e f z =
+    z ∙ ap (consNumber q sx sy same) f ∙ sym (cons-late t q x y (firstFree t) sx sy same tx ty e)
+
 -- a replace in x by y that detaches d, of either kind
-pub replace-late : (t : List ℕ) (q : Queue) (n field y d x : ℕ) (sy sx : Sums) (same kept : ℕ) → kindOf n ≡ replaces field → TallyOf t (waiting q) y sy
+replace-late : (t : List ℕ) (q : Queue) (n field y d x : ℕ) (sy sx : Sums) (same kept : ℕ) → kindOf n ≡ replaces field → TallyOf t (waiting q) y sy
     → TallyOf t (waiting q) x sx → same ≡ matching x y 1 → kept ≡ matching d y 1 → firstNo (codeLate t q (packet n y d x)) ≡ replaceNumber q sy sx same kept
 unfolding codeLate firstNo freeByEnd raisedWithin raisedWords uses usesOf changes changesOf movedBy everyOf
 replace-late t q n field y d x sy sx same kept h ty tx e g =

@@ -1,6 +1,5 @@
 -- What a row call gives, refused and done; and what the questions' "yes" to all leaves to lean on.
 use mathlib.Core.Path.{_≡_, refl, sym, ap, ap₂, _∙_}
-use mathlib.Core.Logic.{⊎-elim}
 use mathlib.Core.Bool.{Bool, true, false, cond, not}
 use mathlib.Core.List.{List, [], _∷_, _++_}
 use Prim.Native.Nat.{ℕ, zero, suc, pred, _-_, _≤_, _<_}
@@ -14,12 +13,12 @@ use Rattle.machine.specs.declared.RowAnswer.{RowAnswer}
 use Rattle.machine.specs.declared.Asked
 use Rattle.machine.specs.declared.Asked.{Asked}
 use Rattle.machine.specs.declared.Refusal.{Refusal}
-use Rattle.machine.specs.Table.{left, right, newCell, capacity, firstFree, lastFree, tableLength, wordAt, putWord, putEnds, putCell}
+use Rattle.machine.specs.Table.{left, right, newCell, firstFree, lastFree, tableLength, wordAt, putWord, putEnds, putCell}
 use Rattle.machine.specs.Queue.{Packet, packet, slots, appended, waiting}
-use Rattle.machine.specs.Packets.{root, cell, kindOf, reads, makes, replaces, raises, lowers, unknown, Kind}
-use Rattle.machine.specs.Calls.{RowCall, car, cdr, cons, setLeft, setRight, up, down, row, Reply, value, refused, Store, store, field, packetOf, withoutFirst, written, valueOf}
+use Rattle.machine.specs.Packets.{root, cell, kindOf, reads, replaces}
+use Rattle.machine.specs.Calls.{RowCall, cons, up, down, row, value, refused, store, field, packetOf, withoutFirst, written, valueOf}
 use Rattle.machine.specs.Step.{Outcome, outcome}
-use Rattle.machine.specs.Questions.{Question, ask, firstNo, refusedBy, heldEnough, slotEmpty, earlyRow, early}
+use Rattle.machine.specs.Questions.{ask, firstNo, refusedBy, heldEnough, slotEmpty}
 use Rattle.machine.specs.Machine.{accepted, answered}
 use Rattle.machine.specs.Answers.{refusalNumber, askedNumber, rowReply}
 use Rattle.calls.specs.Tests.{raisedWithin, freeByEnd, codeLate, codeQuestions}
@@ -212,16 +211,3 @@ module _ (t : List ℕ) (q : Queue) (asked : Asked) (yes : asked ≡ Asked.Yes) 
       → RowCalled t q (down x n) a t q′
   unfolding valueOf written packetOf
   down-done x n z h e = row-done t q (down x n) 0 a t q′ (asked-yes z yes) h refl refl e
-
--- a refusal leaves table and queue as they were, whatever the call
-pub refusal-keeps : (t : List ℕ) (q : Queue) (r : RowCall) (f : Refusal) (t′ : List ℕ) (q′ : Queue) → RowCalled t q r (RowAnswer.Refused f) t′ q′ → (t′ ≡ t) × (q′ ≡ q)
-refusal-keeps t q r f t′ q′ h = go (firstNo (codeQuestions t q r)) refl
-  where
-    go : (n : ℕ) → firstNo (codeQuestions t q r) ≡ n → (t′ ≡ t) × (q′ ≡ q)
-    go zero e =
-        let d : refused (refusalNumber f) ≡ value (valueOf t r) = h .reply ∙ ap (λ (x : Outcome). x .reply) (outcome-done t q r e) in
-        let z : _≡_ {A = ℕ} 0 1 = cc in
-        absurd (omega arith)
-    go (suc n) e =
-        let o = outcome-refused t q r n e in
-        (h .table ∙ ap (λ (x : Outcome). x .after .table) o, h .queue ∙ ap (λ (x : Outcome). x .after .queue) o)

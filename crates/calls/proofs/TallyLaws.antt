@@ -2,15 +2,15 @@
 use mathlib.Core.Path.{_≡_, refl, ap, _∙_}
 use mathlib.Core.Bool.{true, false}
 use mathlib.Core.List.{List}
-use Prim.Native.Nat.{ℕ, pred, _+_, _-_}
+use Prim.Native.Nat.{ℕ, pred, _-_}
 use native.Mathlib.Omega.{arith}
 use Rattle.machine.specs.Words.{isCell}
-use Rattle.machine.specs.Table.{rootCount, cellCount, capacity, wordAt}
+use Rattle.machine.specs.Table.{capacity, wordAt}
 use Rattle.machine.specs.Queue.{Packet}
-use Rattle.machine.specs.Packets.{Counter, root, cell}
+use Rattle.machine.specs.Packets.{Counter, cell}
 use Rattle.machine.specs.Step.{counterWord}
 use Rattle.machine.proofs.Range.{not-both}
-use Rattle.queue.specs.Sums.{CounterSums, SumsOf, WithCount}
+use Rattle.queue.specs.Sums.{CounterSums, WithCount}
 use Rattle.calls.specs.Tally.{CounterTally}
 
 -- of a cell, one counter's: the counter n, and the sums r and l of its waiting changes

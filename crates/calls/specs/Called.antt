@@ -9,7 +9,7 @@ use Rattle.machine.specs.declared.Queue.{Queue}
 use Rattle.machine.specs.declared.RowAnswer.{RowAnswer}
 use Rattle.machine.specs.declared.FreshAnswer.{FreshAnswer}
 use Rattle.machine.specs.Table.{left, right}
-use Rattle.machine.specs.Calls.{RowCall, car, cdr, setLeft, setRight, row, fresh, Store, store}
+use Rattle.machine.specs.Calls.{RowCall, car, cdr, setLeft, setRight, row, fresh, store}
 use Rattle.machine.specs.Step.{Outcome}
 use Rattle.machine.specs.Questions.{firstNo}
 use Rattle.machine.specs.Machine.{answered, machine}

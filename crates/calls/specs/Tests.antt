@@ -10,8 +10,8 @@ use Rattle.machine.specs.Range.{everyOf}
 use Rattle.machine.specs.Words.{isCell, ceiling}
 use Rattle.machine.specs.Table.{capacity, firstFree, wordAt}
 use Rattle.machine.specs.Queue.{Packet, waiting}
-use Rattle.machine.specs.Packets.{Kind, reads, makes, replaces, raises, lowers, unknown, kindOf, Counter, root, cell, Direction, plus, minus, Change, changes, sameCounter, sameDirection, movedBy, waitingChange}
-use Rattle.machine.specs.Calls.{RowCall, row, Store, store, packetOf}
+use Rattle.machine.specs.Packets.{Kind, reads, makes, replaces, raises, lowers, unknown, kindOf, Counter, root, cell, plus, minus, Change, changes, sameCounter, sameDirection, movedBy, waitingChange}
+use Rattle.machine.specs.Calls.{RowCall, row, store, packetOf}
 use Rattle.machine.specs.Step.{counterWord}
 use Rattle.machine.specs.Questions.{Question, ask, early, heldEnough, slotEmpty}
 
@@ -20,7 +20,7 @@ unfoldable pub raisedWords : Counter → List Change → List ℕ
 raisedWords k [] = []
 raisedWords k (h ∷ hs) = cond (sameCounter k (h .counter) && sameDirection plus (h .direction)) (h .word ∷ []) [] ++ raisedWords k hs
 
--- after the packet p the counter k of the place i with its waiting changes is at most 4,095
+-- after the packet p the counter k of the cell at index i with its waiting changes is at most 4,095
 unfoldable pub countWithin : Counter → List ℕ → List Packet → Packet → ℕ → Bool
 countWithin k t ps p i =
     leb (wordAt t i (counterWord k) + waitingChange k plus (suc i) ps + movedBy k plus (suc i) (changes p))

@@ -1,17 +1,16 @@
 -- One packet's changes, by its kind; and the sums over packets, one packet at a time.
-use mathlib.Core.Path.{_≡_, refl, sym, ap, ap₂, _∙_}
-use mathlib.Core.List.{List, [], _∷_, _++_}
-use Prim.Native.Nat.{ℕ, zero, suc, _+_, _*_, _%_, _≤_, _<_}
+use mathlib.Core.Path.{_≡_, refl, sym, ap, _∙_}
+use Prim.Native.Nat.{ℕ, zero, _+_, _%_, _≤_}
 use native.Mathlib.Omega.{arith}
 use native.Mathlib.Numerals.{add-one}
 use borrow.Author.Tests.{ne-eqb}
 use Rattle.machine.specs.declared.Queue.{Queue}
 use Rattle.machine.specs.Queue.{Packet, slots, slot, packetsFrom}
-use Rattle.machine.specs.Packets.{Counter, root, cell, Direction, plus, minus, Kind, reads, makes, replaces, raises, lowers, unknown, kindOf, changesOf, changes, movedBy, waitingChange}
+use Rattle.machine.specs.Packets.{Counter, root, cell, Direction, plus, minus, Kind, unknown, kindOf, changesOf, changes, movedBy, waitingChange}
 use Rattle.machine.proofs.Ring.{packets-snoc}
 use Rattle.machine.proofs.Lists.{waiting-snoc}
 use Rattle.queue.specs.declared.Sums.{Sums}
-use Rattle.queue.specs.Sums.{largestWord, CounterSums, SumsOf, AtMost, Bounded, CounterAdded, Added}
+use Rattle.queue.specs.Sums.{largestWord, CounterSums, SumsOf, AtMost, CounterAdded, Added}
 
 -- one packet's changes of the counter c, by its kind
 abbrev Moved : Counter → Kind → ℕ → ℕ → ℕ → ℕ → ℕ → ℕ → ℕ → Type 0

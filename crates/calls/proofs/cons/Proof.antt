@@ -9,9 +9,11 @@ use Rattle.calls.proofs.cons.Tie as tie
 cons-refusal-requires : tie.Need-cons-refusal-requires
 cons-refusal-requires c κs = search needs
 
+abbrev start : tie.After-enum-told → tie.Start
+start c = c .before .before .before .before .before
+
 -- what the questions' "yes" leaves
-accepted : (c : tie.After-enum-told)
-    → Ready (c .before .before .before .before .before .args .table .now) (c .before .before .before .before .before .args .queue) (firstFree (c .before .before .before .before .before .args .table .now))
+accepted : (c : tie.After-enum-told) → Ready (start c .args .table .now) (start c .args .queue) (firstFree (start c .args .table .now))
 accepted c =
     let at-refusal = c .before .before in
     let i = at-refusal .before .before .before .args in

@@ -7,9 +7,11 @@ use Rattle.calls.proofs.replace.Tie as tie
 replace-refusal-requires : tie.Need-replace-refusal-requires
 replace-refusal-requires c κs = search needs
 
+abbrev start : tie.After-enum-told → tie.Start
+start c = c .before .before .before .before .before
+
 -- what the questions' "yes" leaves
-accepted : (c : tie.After-enum-told)
-    → Ready (c .before .before .before .before .before .args .table .now) (c .before .before .before .before .before .args .queue) (c .before .before .before .before .before .args .x)
+accepted : (c : tie.After-enum-told) → Ready (start c .args .table .now) (start c .args .queue) (start c .args .x)
 accepted c =
     let at-refusal = c .before .before in
     let start = at-refusal .before .before .before in

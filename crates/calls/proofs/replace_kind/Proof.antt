@@ -1,7 +1,6 @@
 use mathlib.Core.Path.{refl}
 use mathlib.Core.Logic.{inl, inr}
 use native.Mathlib.Omega.{arith}
-use borrow.Author.Needs.{needs}
 use Rattle.calls.proofs.replace_kind.Statement.{statement}
 use Rattle.calls.proofs.replace_kind.Tie as tie
 

@@ -1,5 +1,5 @@
 use mathlib.Core.Path.{_≡_}
-use Prim.Native.Nat.{_+_, _-_, _≤_, _<_}
+use Prim.Native.Nat.{_-_, _≤_, _<_}
 use native.Mathlib.Omega.{arith}
 use borrow.Author.Needs.{needs}
 use Rattle.machine.specs.Queue.{slots, slot, packetsFrom, waiting}
@@ -55,11 +55,12 @@ loop-again c =
     let at-loop = c .before .before .before .before .before .before in
     let l = at-loop .loop in
     let i = at-loop .before .args in
-    let q = i .t1 in (
+    let q = i .t1 in
+    let added = rw (c .before .before .before .before .slot-after .ensures .0) at (c .with-changes .ensures) in (
       omega arith,
       l .inv .1,
       l .inv .2,
-      sums-more q (q .place) (l .i) (i .x) (l .s) (c .with-changes .result) (l .inv .3) (rw (c .before .before .before .before .slot-after .ensures .0) at (c .with-changes .ensures)),
+      sums-more q (q .place) (l .i) (i .x) (l .s) (c .with-changes .result) (l .inv .3) added,
       c .with-changes .ensures .few (l .i) (l .inv .4),
     )
 

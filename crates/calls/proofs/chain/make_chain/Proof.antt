@@ -39,12 +39,17 @@ loop-again c =
     (omega arith, chain-more _ (l .i) _ _ _ (l .inv .1) (c .before .before .chain-cell .ensures), c .before .before .chain-cell .kept .0 ∙ l .inv .2)
 
 same-length : tie.Need-same-length Inv-loop μ-loop
-same-length c = c .before .loop .inv .2 ∙ c .before .before .before .before .set-ends .kept .0 ∙ c .before .before .before .before .before .before .before .before .set-capacity .kept .0
+same-length c =
+    let at-ends = c .before .before .before .before in
+    let at-capacity = at-ends .before .before .before .before in
+    c .before .loop .inv .2 ∙ at-ends .set-ends .kept .0 ∙ at-capacity .set-capacity .kept .0
 
 returns : tie.Need-returns Inv-loop μ-loop
 returns c =
     let l = c .before .loop in
-    chain-all _ (l .i) _ _ _ _ (c .before .before .before .before .before .before .before .before .set-capacity .ensures) (c .before .before .before .before .set-ends .ensures) (omega arith) (l .inv .1)
+    let at-ends = c .before .before .before .before in
+    let at-capacity = at-ends .before .before .before .before in
+    chain-all _ (l .i) _ _ _ _ (at-capacity .set-capacity .ensures) (at-ends .set-ends .ensures) (omega arith) (l .inv .1)
 
 pub make-chain-spec : {M : Type 1} → statement M
 make-chain-spec =

@@ -1,7 +1,6 @@
-use mathlib.Core.Path.{sym, _∙_}
 use native.Mathlib.Omega.{arith}
 use borrow.Author.Needs.{needs}
-use Rattle.calls.proofs.EarlyLaws.{cellular, words-ready, words-first, cell-yes, cell-5, asked-yes}
+use Rattle.calls.proofs.EarlyLaws.{cellular, words-ready, words-first, cell-yes, cell-5}
 use Rattle.calls.proofs.early.cell_asked.Statement.{statement}
 use Rattle.calls.proofs.early.cell_asked.Tie as tie
 
@@ -37,8 +36,9 @@ returns-2 c =
     let at-words = at-told .before .before in
     let i = at-words .before .before .args in
     let t = i .table .now in
-    let w = sym (asked-yes (at-words .words-asked .ensures) (at-told .enum-told2 .given .1)) in
-    sym (cell-yes t (i .queue) (i .n) (i .x) (i .y) w (cellular t _ (i .x) (c .before .before .capacity-of .ensures) (c .before .is-cell .ensures) (c .if1 .taken)))
+    let words = at-words .words-asked in
+    cell-yes t (i .queue) (i .n) (i .x) (i .y) (words .result) (at-told .enum-told2 .given .1) (words .ensures)
+    (cellular t _ (i .x) (c .before .before .capacity-of .ensures) (c .before .is-cell .ensures) (c .if1 .taken))
 
 returns-3 : tie.Need-returns-3
 returns-3 c =
@@ -46,8 +46,9 @@ returns-3 c =
     let at-words = at-told .before .before in
     let i = at-words .before .before .args in
     let t = i .table .now in
-    let w = sym (asked-yes (at-words .words-asked .ensures) (at-told .enum-told2 .given .1)) in
-    sym (cell-5 t (i .queue) (i .n) (i .x) (i .y) w (cellular t _ (i .x) (c .before .before .capacity-of .ensures) (c .before .is-cell .ensures) (c .if1 .left)))
+    let words = at-words .words-asked in
+    cell-5 t (i .queue) (i .n) (i .x) (i .y) (words .result) (at-told .enum-told2 .given .1) (words .ensures)
+    (cellular t _ (i .x) (c .before .before .capacity-of .ensures) (c .before .is-cell .ensures) (c .if1 .left))
 
 pub cell-asked-spec : {M : Type 1} → statement M
 cell-asked-spec =

@@ -1,7 +1,5 @@
-use mathlib.Core.Path.{sym, ap, _∙_}
 use borrow.Author.Needs.{needs}
-use Rattle.calls.specs.Tally.{consNumber}
-use Rattle.calls.proofs.LateLaws.{cons-late}
+use Rattle.calls.proofs.LateLaws.{cons-asked}
 use Rattle.calls.proofs.late.cons_late.Statement.{statement}
 use Rattle.calls.proofs.late.cons_late.Tie as tie
 
@@ -29,9 +27,9 @@ returns c =
     let x = at-x .tally-of in
     let y = at-y .tally-of2 in
     let same = at-same .matched in
-    c .cons-tests .ensures
-    ∙ ap (consNumber (i .queue) (x .result) (y .result) (same .result)) (c .before .first-free .ensures)
-    ∙ sym (cons-late (i .table .now) (i .queue) (i .x) (i .y) _ (x .result) (y .result) (same .result) (x .ensures .0) (y .ensures .0) (same .ensures .0))
+    let first = c .before .first-free in
+    cons-asked (i .table .now) (i .queue) (i .x) (i .y) (x .result) (y .result) (same .result) (first .result) _
+    (x .ensures .0) (y .ensures .0) (same .ensures .0) (first .ensures) (c .cons-tests .ensures)
 
 pub cons-late-spec : {M : Type 1} → statement M
 cons-late-spec =

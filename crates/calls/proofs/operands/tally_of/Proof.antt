@@ -54,10 +54,12 @@ returns c =
     let e = at-sums .waiting-changes .ensures .0 in
     let held = c .before .before .with in
     let pointers = c .with2 in
+    let root-count = c .before .before .before .root-count in
+    let cell-count = c .before .cell-count in
     let w = a-cell (at-sums .before) in (
       record {
-        held = counter-tally root 2 t ps (i .w) _ (s .held .raised) (s .held .lowered) _ _ w (c .before .before .before .root-count .ensures) (e .held) (held .ensures);
-        pointers = counter-tally cell 0 t ps (i .w) _ (s .pointers .raised) (s .pointers .lowered) _ _ w (c .before .cell-count .ensures) (e .pointers) (pointers .ensures);
+        held = counter-tally root 2 t ps (i .w) _ (s .held .raised) (s .held .lowered) _ _ w (root-count .ensures) (e .held) (held .ensures);
+        pointers = counter-tally cell 0 t ps (i .w) _ (s .pointers .raised) (s .pointers .lowered) _ _ w (cell-count .ensures) (e .pointers) (pointers .ensures);
       },
       record { held = held .ensures .few; pointers = pointers .ensures .few },
     )

@@ -7,8 +7,11 @@ use Rattle.calls.proofs.refusals.read_refusal.Tie as tie
 cell-asked-requires : tie.Need-cell-asked-requires
 cell-asked-requires c κs = search needs
 
+abbrev start : tie.After-enum-told2 → tie.Start
+start c = c .before .before .before .before
+
 -- what the early questions' "yes" leaves
-accepted : (c : tie.After-enum-told2) → Callable (c .before .before .before .before .args .table .now) (c .before .before .before .before .args .queue) 1 (c .before .before .before .before .args .x)
+accepted : (c : tie.After-enum-told2) → Callable (start c .args .table .now) (start c .args .queue) 1 (start c .args .x)
 accepted c =
     let at-early = c .before .before in
     let i = at-early .before .before .args in

@@ -19,56 +19,77 @@ at-least-requires-2 c κs = search needs
 
 returns-2 : tie.Need-returns-2
 returns-2 c =
-    let at-1 = c .before .before in
-    rw (yes (at-1 .before .at-least .ensures) (at-1 .if1 .left), no (c .before .at-least2 .ensures) (c .if2 .taken))
+    let at-held-x = c .before .before in
+    let held-x = yes (at-held-x .before .at-least .ensures) (at-held-x .if1 .left) in
+    rw (held-x, no (c .before .at-least2 .ensures) (c .if2 .taken))
 
 slot-empty-requires : tie.Need-slot-empty-requires
 slot-empty-requires c κs = search needs
 
 returns-3 : tie.Need-returns-3
 returns-3 c =
-    let at-1 = c .before .before .before .before in
-    let at-2 = c .before .before in
-    rw (yes (at-1 .before .at-least .ensures) (at-1 .if1 .left), yes (at-2 .before .at-least2 .ensures) (at-2 .if2 .left), no (c .before .slot-empty .ensures) (c .if3 .taken))
+    let at-held-y = c .before .before in
+    let at-held-x = at-held-y .before .before in
+    let held-x = yes (at-held-x .before .at-least .ensures) (at-held-x .if1 .left) in
+    let held-y = yes (at-held-y .before .at-least2 .ensures) (at-held-y .if2 .left) in
+    rw (held-x, held-y, no (c .before .slot-empty .ensures) (c .if3 .taken))
 
 returns-4 : tie.Need-returns-4
 returns-4 c =
-    let at-1 = c .before .before .before .before .before in
-    let at-2 = c .before .before .before in
-    let at-3 = c .before in
-    rw (yes (at-1 .before .at-least .ensures) (at-1 .if1 .left), yes (at-2 .before .at-least2 .ensures) (at-2 .if2 .left), yes (at-3 .before .slot-empty .ensures) (at-3 .if3 .left), eq-eqb _ 0 (c .if4 .taken))
+    let at-slot = c .before in
+    let at-held-y = at-slot .before .before in
+    let at-held-x = at-held-y .before .before in
+    let held-x = yes (at-held-x .before .at-least .ensures) (at-held-x .if1 .left) in
+    let held-y = yes (at-held-y .before .at-least2 .ensures) (at-held-y .if2 .left) in
+    let slot = yes (at-slot .before .slot-empty .ensures) (at-slot .if3 .left) in
+    rw (held-x, held-y, slot, eq-eqb _ 0 (c .if4 .taken))
 
 within-requires : tie.Need-within-requires
 within-requires c κs = search needs
 
 returns-5 : tie.Need-returns-5
 returns-5 c =
-    let at-1 = c .before .before .before .before .before .before .before in
-    let at-2 = c .before .before .before .before .before in
-    let at-3 = c .before .before .before in
-    let at-4 = c .before .before in
-    rw (yes (at-1 .before .at-least .ensures) (at-1 .if1 .left), yes (at-2 .before .at-least2 .ensures) (at-2 .if2 .left), yes (at-3 .before .slot-empty .ensures) (at-3 .if3 .left), ne-eqb _ 0 (at-4 .if4 .left), no (c .before .within .ensures) (c .if5 .taken))
+    let at-free = c .before .before in
+    let at-slot = at-free .before in
+    let at-held-y = at-slot .before .before in
+    let at-held-x = at-held-y .before .before in
+    let held-x = yes (at-held-x .before .at-least .ensures) (at-held-x .if1 .left) in
+    let held-y = yes (at-held-y .before .at-least2 .ensures) (at-held-y .if2 .left) in
+    let slot = yes (at-slot .before .slot-empty .ensures) (at-slot .if3 .left) in
+    let free = ne-eqb _ 0 (at-free .if4 .left) in
+    rw (held-x, held-y, slot, free, no (c .before .within .ensures) (c .if5 .taken))
 
 within-requires-2 : tie.Need-within-requires-2
 within-requires-2 c κs = search needs
 
 returns-6 : tie.Need-returns-6
 returns-6 c =
-    let at-1 = c .before .before .before .before .before .before .before .before .before in
-    let at-2 = c .before .before .before .before .before .before .before in
-    let at-3 = c .before .before .before .before .before in
-    let at-4 = c .before .before .before .before in
-    let at-5 = c .before .before in
-    rw (yes (at-1 .before .at-least .ensures) (at-1 .if1 .left), yes (at-2 .before .at-least2 .ensures) (at-2 .if2 .left), yes (at-3 .before .slot-empty .ensures) (at-3 .if3 .left), ne-eqb _ 0 (at-4 .if4 .left), yes (at-5 .before .within .ensures) (at-5 .if5 .left), no (c .before .within2 .ensures) (c .if6 .taken))
+    let at-after-x = c .before .before in
+    let at-free = at-after-x .before .before in
+    let at-slot = at-free .before in
+    let at-held-y = at-slot .before .before in
+    let at-held-x = at-held-y .before .before in
+    let held-x = yes (at-held-x .before .at-least .ensures) (at-held-x .if1 .left) in
+    let held-y = yes (at-held-y .before .at-least2 .ensures) (at-held-y .if2 .left) in
+    let slot = yes (at-slot .before .slot-empty .ensures) (at-slot .if3 .left) in
+    let free = ne-eqb _ 0 (at-free .if4 .left) in
+    let after-x = yes (at-after-x .before .within .ensures) (at-after-x .if5 .left) in
+    rw (held-x, held-y, slot, free, after-x, no (c .before .within2 .ensures) (c .if6 .taken))
 
 returns-7 : tie.Need-returns-7
 returns-7 c =
-    let at-1 = c .before .before .before .before .before .before .before .before .before in
-    let at-2 = c .before .before .before .before .before .before .before in
-    let at-3 = c .before .before .before .before .before in
-    let at-4 = c .before .before .before .before in
-    let at-5 = c .before .before in
-    rw (yes (at-1 .before .at-least .ensures) (at-1 .if1 .left), yes (at-2 .before .at-least2 .ensures) (at-2 .if2 .left), yes (at-3 .before .slot-empty .ensures) (at-3 .if3 .left), ne-eqb _ 0 (at-4 .if4 .left), yes (at-5 .before .within .ensures) (at-5 .if5 .left), yes (c .before .within2 .ensures) (c .if6 .left))
+    let at-after-x = c .before .before in
+    let at-free = at-after-x .before .before in
+    let at-slot = at-free .before in
+    let at-held-y = at-slot .before .before in
+    let at-held-x = at-held-y .before .before in
+    let held-x = yes (at-held-x .before .at-least .ensures) (at-held-x .if1 .left) in
+    let held-y = yes (at-held-y .before .at-least2 .ensures) (at-held-y .if2 .left) in
+    let slot = yes (at-slot .before .slot-empty .ensures) (at-slot .if3 .left) in
+    let free = ne-eqb _ 0 (at-free .if4 .left) in
+    let after-x = yes (at-after-x .before .within .ensures) (at-after-x .if5 .left) in
+    let after-y = yes (c .before .within2 .ensures) (c .if6 .left) in
+    rw (held-x, held-y, slot, free, after-x, after-y)
 
 pub cons-tests-spec : {M : Type 1} → statement M
 cons-tests-spec =

@@ -15,13 +15,16 @@ slot-empty-requires c κs = search needs
 
 returns-2 : tie.Need-returns-2
 returns-2 c =
-    let at-1 = c .before .before in
-    rw (yes (at-1 .before .at-least .ensures) (at-1 .if1 .left), no (c .before .slot-empty .ensures) (c .if2 .taken))
+    let at-held = c .before .before in
+    let held = yes (at-held .before .at-least .ensures) (at-held .if1 .left) in
+    rw (held, no (c .before .slot-empty .ensures) (c .if2 .taken))
 
 returns-3 : tie.Need-returns-3
 returns-3 c =
-    let at-1 = c .before .before in
-    rw (yes (at-1 .before .at-least .ensures) (at-1 .if1 .left), yes (c .before .slot-empty .ensures) (c .if2 .left))
+    let at-held = c .before .before in
+    let held = yes (at-held .before .at-least .ensures) (at-held .if1 .left) in
+    let slot = yes (c .before .slot-empty .ensures) (c .if2 .left) in
+    rw (held, slot)
 
 pub down-tests-spec : {M : Type 1} → statement M
 down-tests-spec =

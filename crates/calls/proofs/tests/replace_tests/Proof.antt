@@ -18,34 +18,44 @@ at-least-requires-2 c κs = search needs
 
 returns-2 : tie.Need-returns-2
 returns-2 c =
-    let at-1 = c .before .before in
-    rw (yes (at-1 .before .at-least .ensures) (at-1 .if1 .left), no (c .before .at-least2 .ensures) (c .if2 .taken))
+    let at-held-y = c .before .before in
+    let held-y = yes (at-held-y .before .at-least .ensures) (at-held-y .if1 .left) in
+    rw (held-y, no (c .before .at-least2 .ensures) (c .if2 .taken))
 
 slot-empty-requires : tie.Need-slot-empty-requires
 slot-empty-requires c κs = search needs
 
 returns-3 : tie.Need-returns-3
 returns-3 c =
-    let at-1 = c .before .before .before .before in
-    let at-2 = c .before .before in
-    rw (yes (at-1 .before .at-least .ensures) (at-1 .if1 .left), yes (at-2 .before .at-least2 .ensures) (at-2 .if2 .left), no (c .before .slot-empty .ensures) (c .if3 .taken))
+    let at-held-x = c .before .before in
+    let at-held-y = at-held-x .before .before in
+    let held-y = yes (at-held-y .before .at-least .ensures) (at-held-y .if1 .left) in
+    let held-x = yes (at-held-x .before .at-least2 .ensures) (at-held-x .if2 .left) in
+    rw (held-y, held-x, no (c .before .slot-empty .ensures) (c .if3 .taken))
 
 within-requires : tie.Need-within-requires
 within-requires c κs = search needs
 
 returns-4 : tie.Need-returns-4
 returns-4 c =
-    let at-1 = c .before .before .before .before .before .before in
-    let at-2 = c .before .before .before .before in
-    let at-3 = c .before .before in
-    rw (yes (at-1 .before .at-least .ensures) (at-1 .if1 .left), yes (at-2 .before .at-least2 .ensures) (at-2 .if2 .left), yes (at-3 .before .slot-empty .ensures) (at-3 .if3 .left), no (c .before .within .ensures) (c .if4 .taken))
+    let at-slot = c .before .before in
+    let at-held-x = at-slot .before .before in
+    let at-held-y = at-held-x .before .before in
+    let held-y = yes (at-held-y .before .at-least .ensures) (at-held-y .if1 .left) in
+    let held-x = yes (at-held-x .before .at-least2 .ensures) (at-held-x .if2 .left) in
+    let slot = yes (at-slot .before .slot-empty .ensures) (at-slot .if3 .left) in
+    rw (held-y, held-x, slot, no (c .before .within .ensures) (c .if4 .taken))
 
 returns-5 : tie.Need-returns-5
 returns-5 c =
-    let at-1 = c .before .before .before .before .before .before in
-    let at-2 = c .before .before .before .before in
-    let at-3 = c .before .before in
-    rw (yes (at-1 .before .at-least .ensures) (at-1 .if1 .left), yes (at-2 .before .at-least2 .ensures) (at-2 .if2 .left), yes (at-3 .before .slot-empty .ensures) (at-3 .if3 .left), yes (c .before .within .ensures) (c .if4 .left))
+    let at-slot = c .before .before in
+    let at-held-x = at-slot .before .before in
+    let at-held-y = at-held-x .before .before in
+    let held-y = yes (at-held-y .before .at-least .ensures) (at-held-y .if1 .left) in
+    let held-x = yes (at-held-x .before .at-least2 .ensures) (at-held-x .if2 .left) in
+    let slot = yes (at-slot .before .slot-empty .ensures) (at-slot .if3 .left) in
+    let after = yes (c .before .within .ensures) (c .if4 .left) in
+    rw (held-y, held-x, slot, after)
 
 pub replace-tests-spec : {M : Type 1} → statement M
 replace-tests-spec =

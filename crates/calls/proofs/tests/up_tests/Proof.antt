@@ -15,23 +15,29 @@ slot-empty-requires c κs = search needs
 
 returns-2 : tie.Need-returns-2
 returns-2 c =
-    let at-1 = c .before .before in
-    rw (yes (at-1 .before .at-least .ensures) (at-1 .if1 .left), no (c .before .slot-empty .ensures) (c .if2 .taken))
+    let at-held = c .before .before in
+    let held = yes (at-held .before .at-least .ensures) (at-held .if1 .left) in
+    rw (held, no (c .before .slot-empty .ensures) (c .if2 .taken))
 
 within-requires : tie.Need-within-requires
 within-requires c κs = search needs
 
 returns-3 : tie.Need-returns-3
 returns-3 c =
-    let at-1 = c .before .before .before .before in
-    let at-2 = c .before .before in
-    rw (yes (at-1 .before .at-least .ensures) (at-1 .if1 .left), yes (at-2 .before .slot-empty .ensures) (at-2 .if2 .left), no (c .before .within .ensures) (c .if3 .taken))
+    let at-slot = c .before .before in
+    let at-held = at-slot .before .before in
+    let held = yes (at-held .before .at-least .ensures) (at-held .if1 .left) in
+    let slot = yes (at-slot .before .slot-empty .ensures) (at-slot .if2 .left) in
+    rw (held, slot, no (c .before .within .ensures) (c .if3 .taken))
 
 returns-4 : tie.Need-returns-4
 returns-4 c =
-    let at-1 = c .before .before .before .before in
-    let at-2 = c .before .before in
-    rw (yes (at-1 .before .at-least .ensures) (at-1 .if1 .left), yes (at-2 .before .slot-empty .ensures) (at-2 .if2 .left), yes (c .before .within .ensures) (c .if3 .left))
+    let at-slot = c .before .before in
+    let at-held = at-slot .before .before in
+    let held = yes (at-held .before .at-least .ensures) (at-held .if1 .left) in
+    let slot = yes (at-slot .before .slot-empty .ensures) (at-slot .if2 .left) in
+    let after = yes (c .before .within .ensures) (c .if3 .left) in
+    rw (held, slot, after)
 
 pub up-tests-spec : {M : Type 1} → statement M
 up-tests-spec =
