@@ -40,7 +40,7 @@ fn used_marked(table: &[u16], scratch: &[u16]) -> bool
 
 pub(crate) fn all_reached(table: &[u16], queue: Queue, scratch: &mut [u16]) -> bool
     requires { ⌜ Lent (now table) queue (now scratch) ⌝ }
-    ensures { λ r. ⌜ Audits (capacity (now (table .entry))) (allReached (now (table .entry)) (waiting queue)) (now (scratch .entry)) (now (scratch .exit)) r ⌝ }
+    ensures { λ r. ⌜ Audits (now (table .entry)) (allReached (now (table .entry)) (waiting queue)) (now (scratch .entry)) (now (scratch .exit)) r ⌝ }
 {
     mark(table, queue, scratch);
     used_marked(table, scratch)

@@ -73,7 +73,8 @@ module _ (t : List ℕ) (i : ℕ) where
   unfolding cellSound fieldHolds
   cell-field h k l = go k l (or-true (isFree t i) _ (and-second (countsSound t i) fields (unfold countsSound in h)))
     where
-      go : (k : ℕ) → k ≤ right → (isFree t i ≡ true) ⊎ (fieldSound t (wordAt t i left) && fieldSound t (wordAt t i right) ≡ true) → isFree t i || fieldSound t (wordAt t i k) ≡ true
+      go : (k : ℕ) → k ≤ right → (isFree t i ≡ true) ⊎ (fieldSound t (wordAt t i left) && fieldSound t (wordAt t i right) ≡ true)
+          → isFree t i || fieldSound t (wordAt t i k) ≡ true
       go k l (inl e) = or-left _ e
       go zero l (inr e) = or-right (isFree t i) (and-first _ (fieldSound t (wordAt t i right)) e)
       go (suc zero) l (inr e) = or-right (isFree t i) (and-second (fieldSound t (wordAt t i left)) _ e)

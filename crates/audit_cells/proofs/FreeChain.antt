@@ -53,24 +53,27 @@ module _ (t : List ℕ) where
       let e : i ≡ j = omega (arith, h .0, k .0) in
       ap suc (linked-length (wordAt t i left) is js (h .2) (rw e (k .2)))
 
-  -- the part of a linked list from a index that it meets
+  -- the part of a linked list from an index that it meets
   linked-from : (x w : ℕ) (is : List ℕ) → Linked t w is → 0 < occurrences x is → (js : List ℕ) × Linked t (suc x) js × (length js ≤ length is)
   unfolding occurrences
   linked-from x w [] h l = absurd (omega arith)
-  linked-from x w (i ∷ is) h l = ⊎-elim (λ e. here (eqb-true i x e)) (λ e. later (linked-from x (wordAt t i left) is (h .2)) (eqb-false i x e)) (tested (eqb i x))
+  linked-from x w (i ∷ is) h l =
+      ⊎-elim (λ e. here (eqb-true i x e)) (λ e. later (linked-from x (wordAt t i left) is (h .2)) (eqb-false i x e)) (tested (eqb i x))
     where
       here : i ≡ x → (js : List ℕ) × Linked t (suc x) js × (length js ≤ length (i ∷ is))
       here e = (i ∷ is, (ap suc (sym e), h .1, h .2), omega arith)
 
-      later : (0 < occurrences x is → (js : List ℕ) × Linked t (suc x) js × (length js ≤ length is)) → (i ≡ x → ⊥) → (js : List ℕ) × Linked t (suc x) js × (length js ≤ length (i ∷ is))
+      later : (0 < occurrences x is → (js : List ℕ) × Linked t (suc x) js × (length js ≤ length is)) → (i ≡ x → ⊥)
+          → (js : List ℕ) × Linked t (suc x) js × (length js ≤ length (i ∷ is))
       later f d = let m = matching-other i x 1 d in let r = f (omega arith) in let b = r .2 in (r .0, r .1, omega arith)
 
-  -- a walk that meets a index twice never ends
+  -- a walk that meets an index twice never ends
   linked-once : (x w : ℕ) (is : List ℕ) → Linked t w is → occurrences x is ≤ 1
   unfolding occurrences
   linked-once x w [] h = omega arith
   linked-once x w (i ∷ is) h =
-      ⊎-elim (λ e. here (eqb-true i x e)) (λ e. let m = matching-other i x 1 (eqb-false i x e) in omega (arith, linked-once x (wordAt t i left) is (h .2))) (tested (eqb i x))
+      ⊎-elim (λ e. here (eqb-true i x e))
+      (λ e. let m = matching-other i x 1 (eqb-false i x e) in omega (arith, linked-once x (wordAt t i left) is (h .2))) (tested (eqb i x))
     where
       twice : i ≡ x → 0 < occurrences x is → ⊥
       twice e l =
@@ -102,7 +105,8 @@ module _ (t : List ℕ) where
   bit-none i h = rw h
 
   -- as many steps as there are free cells: each of them once
-  all-once : (w : ℕ) (is : List ℕ) → Linked t w is → everyOf is (isFree t) ≡ true → length is ≡ freeCells t → (i : ℕ) → i < capacity t → occurrences i is ≡ freeBit t i
+  all-once : (w : ℕ) (is : List ℕ) → Linked t w is → everyOf is (isFree t) ≡ true → length is ≡ freeCells t → (i : ℕ) → i < capacity t
+      → occurrences i is ≡ freeBit t i
   unfolding freeCells
   all-once w is h f n i l = ⊎-elim (λ m. absurd (short m)) (λ m. let k = most i l in omega arith) (lt-or-ge (occurrences i is) (freeBit t i))
     where
@@ -113,7 +117,8 @@ module _ (t : List ℕ) where
       short : occurrences i is < freeBit t i → ⊥
       short m =
           let e = total-occurrences (capacity t) is (linked-places t w is h) in
-          let s : total (capacity t) (λ j. occurrences j is) < total (capacity t) (freeBit t) = total-lt (capacity t) (λ j. occurrences j is) (freeBit t) i l most m in
+          let s : total (capacity t) (λ j. occurrences j is) < total (capacity t) (freeBit t) =
+          total-lt (capacity t) (λ j. occurrences j is) (freeBit t) i l most m in
           omega arith
 
   chain-length : (js : List ℕ) → Chain t js → length js ≡ freeCells t
@@ -140,7 +145,8 @@ module _ (t : List ℕ) where
       (cell-number (capacity t) w c, cell-place (capacity t) w c, and-second (isCell (capacity t) w) (isFree t (pred w)) h)
 
   -- one step more
-  pub walked-more : (steps w last v : ℕ) (is : List ℕ) → Walked steps w last is → isFreeCell t w ≡ true → v ≡ wordAt t (w - 1) left → Walked (steps + 1) v w (is ++ (pred w ∷ []))
+  pub walked-more : (steps w last v : ℕ) (is : List ℕ) → Walked steps w last is → isFreeCell t w ≡ true → v ≡ wordAt t (w - 1) left
+      → Walked (steps + 1) v w (is ++ (pred w ∷ []))
   walked-more steps w last v is h f e =
       let c = free-cell w f in record {
         leads = rw (e, sub-one w) (leads-snoc (firstFree t) is (pred w) (rw (c .0) at (h .leads)) (c .1));

@@ -1,25 +1,22 @@
 -- S3: slots and packets by the tests that the code makes.
 use mathlib.Core.Path.{_≡_, refl, sym, ap, _∙_}
-use mathlib.Core.Bool.{Bool, true, false, _&&_, _||_}
+use mathlib.Core.Bool.{Bool, true, false, _&&_}
 use mathlib.Core.List.{List, [], _∷_, _++_}
-use Prim.Native.Nat.{ℕ, zero, suc, _+_, _%_, _≤_, _<_}
+use Prim.Native.Nat.{ℕ, zero, suc, _+_, _%_}
 use native.Mathlib.Omega.{arith}
-use lib.Dec.{leb, eqb}
-use borrow.Author.Tests.{le-leb, lt-leb, eqb-true, eq-eqb, ne-eqb}
+use lib.Dec.{eqb}
+use borrow.Author.Tests.{eqb-true, eq-eqb}
 use Rattle.machine.specs.declared.Queue.{Queue}
 use Rattle.machine.specs.Audit.{fieldSound, isZeroPacket, wordsOfKind, packetLegal, namesInUse, packetsLegal}
 use Rattle.machine.specs.Packets.{Kind, kindOf, namesOf, names}
-use Rattle.machine.specs.Questions.{numberInRange}
 use Rattle.machine.specs.Queue.{Packet, slots, slot, packetsFrom, waiting}
 use Rattle.machine.specs.Range.{every, everyOf}
 use Rattle.machine.specs.Table.{capacity}
-use Rattle.machine.specs.Words.{isNil, isCell, isAtom, isLegal, ceiling}
 use Rattle.machine.proofs.Lists.{and-true}
-use Rattle.machine.proofs.Range.{and-first, and-second, or-right, and-both}
+use Rattle.machine.proofs.Range.{and-first, and-second}
 use Rattle.machine.proofs.Ring.{packets-snoc}
-use Rattle.machine.proofs.Words.{cell-number}
 use Rattle.audit_packets.specs.Packets.{packetOn, restZero, packetSound}
-use Rattle.audit_cells.proofs.Tests.{refuted, and-no-first, and-no-second}
+use Rattle.audit_cells.proofs.Tests.{and-no-first, and-no-second}
 
 -- a slot's four words
 module _ (p : Packet) where

@@ -88,7 +88,8 @@ module _ (x : ℕ) where
   running-most n (p ∷ ps) l h = running-most (replayed x p n) ps (leb-true (replayed x p n) ceiling (replays-bound x n p ps h)) (replays-rest x n p ps h)
 
   -- one packet more
-  replays-more : (n : ℕ) (ps : List Packet) (p : Packet) → replays x n ps ≡ true → uses p x ≤ running n ps → replayed x p (running n ps) ≤ ceiling → replays x n (ps ++ (p ∷ [])) ≡ true
+  replays-more : (n : ℕ) (ps : List Packet) (p : Packet) → replays x n ps ≡ true → uses p x ≤ running n ps → replayed x p (running n ps) ≤ ceiling
+      → replays x n (ps ++ (p ∷ [])) ≡ true
   unfolding replays running
   replays-more n [] p h u b = and-both (and-both (le-leb (uses p x) n u) (le-leb (replayed x p n) ceiling b)) refl
   replays-more n (r ∷ ps) p h u b =
@@ -101,13 +102,15 @@ module _ (x : ℕ) where
       and-both (and-both (replays-uses x n r (ps ++ (p ∷ [])) h) (replays-bound x n r (ps ++ (p ∷ [])) h))
       (replays-fewer (replayed x r n) ps p (replays-rest x n r (ps ++ (p ∷ [])) h))
 
-  replays-last : (n : ℕ) (ps : List Packet) (p : Packet) → replays x n (ps ++ (p ∷ [])) ≡ true → (uses p x ≤ running n ps) × (replayed x p (running n ps) ≤ ceiling)
+  replays-last : (n : ℕ) (ps : List Packet) (p : Packet) → replays x n (ps ++ (p ∷ [])) ≡ true
+      → (uses p x ≤ running n ps) × (replayed x p (running n ps) ≤ ceiling)
   unfolding running
   replays-last n [] p h = (leb-true (uses p x) n (replays-uses x n p [] h), leb-true (replayed x p n) ceiling (replays-bound x n p [] h))
   replays-last n (r ∷ ps) p h = replays-last (replayed x r n) ps p (replays-rest x n r (ps ++ (p ∷ [])) h)
 
   -- a stage as the code tests it
-  stage-facts : (n : ℕ) (ps : List Packet) (p : Packet) → stageSound x n ps p ≡ true → (dn ps + uses p x ≤ n + up ps) × (n + up (ps ++ (p ∷ [])) ≤ ceiling + dn (ps ++ (p ∷ [])))
+  stage-facts : (n : ℕ) (ps : List Packet) (p : Packet) → stageSound x n ps p ≡ true
+      → (dn ps + uses p x ≤ n + up ps) × (n + up (ps ++ (p ∷ [])) ≤ ceiling + dn (ps ++ (p ∷ [])))
   unfolding stageSound
   stage-facts n ps p h =
       let a = leb (dn ps + uses p x) (n + up ps) in
@@ -120,7 +123,8 @@ module _ (x : ℕ) where
       let f0 = f .0 in
       let f1 = f .1 in
       let u : uses p x ≤ running n ps = omega (arith, running-sum n ps h) in
-      replays-more n ps p h u (omega (arith, running-sum n ps h, replayed-sum p (running n ps) u, waiting-snoc root plus x ps p, waiting-snoc root minus x ps p))
+      replays-more n ps p h u
+      (omega (arith, running-sum n ps h, replayed-sum p (running n ps) u, waiting-snoc root plus x ps p, waiting-snoc root minus x ps p))
 
   replays-stage : (n : ℕ) (ps : List Packet) (p : Packet) → replays x n (ps ++ (p ∷ [])) ≡ true → stageSound x n ps p ≡ true
   unfolding stageSound
@@ -130,10 +134,12 @@ module _ (x : ℕ) where
       let u = l .0 in
       let m = l .1 in
       and-both (le-leb (dn ps + uses p x) (n + up ps) (omega arith))
-      (le-leb (n + up (ps ++ (p ∷ []))) (ceiling + dn (ps ++ (p ∷ []))) (omega (arith, replayed-sum p (running n ps) u, waiting-snoc root plus x ps p, waiting-snoc root minus x ps p)))
+      (le-leb (n + up (ps ++ (p ∷ []))) (ceiling + dn (ps ++ (p ∷ [])))
+      (omega (arith, replayed-sum p (running n ps) u, waiting-snoc root plus x ps p, waiting-snoc root minus x ps p)))
 
   -- a cell that the packet does not name passes by itself
-  idle-stage : (n : ℕ) (ps : List Packet) (p : Packet) → n ≤ ceiling → replays x n ps ≡ true → (p .a ≡ x → ⊥) → (p .b ≡ x → ⊥) → (p .c ≡ x → ⊥) → replays x n (ps ++ (p ∷ [])) ≡ true
+  idle-stage : (n : ℕ) (ps : List Packet) (p : Packet) → n ≤ ceiling → replays x n ps ≡ true → (p .a ≡ x → ⊥) → (p .b ≡ x → ⊥) → (p .c ≡ x → ⊥)
+      → replays x n (ps ++ (p ∷ [])) ≡ true
   unfolding replayed
   idle-stage n ps p l h da db dc =
       let i = idle p x da db dc in
@@ -153,7 +159,8 @@ module _ (t : List ℕ) (q : Queue) where
       (λ (e : j ≡ suc m). rw e h) (below-suc {i = j} {n = suc m} (omega arith))
 
   -- a word that is the cell at index i
-  word-stage : (j x i : ℕ) → x ≡ suc i → i < capacity t → wordReplays t q j x ≡ true → stageSound (suc i) (wordAt t i rootCount) (oldest q j) (packetOn q j) ≡ true
+  word-stage : (j x i : ℕ) → x ≡ suc i → i < capacity t → wordReplays t q j x ≡ true
+      → stageSound (suc i) (wordAt t i rootCount) (oldest q j) (packetOn q j) ≡ true
   unfolding wordReplays
   word-stage j x i e l h = let k = rw e at h in rw (place-cell (capacity t) i l) at k
 
@@ -177,7 +184,8 @@ module _ (t : List ℕ) (q : Queue) where
   abbrev wc : ℕ → Bool
   wc j = wordReplays t q j (packetOn q j .c)
 
-  stage-all : (j : ℕ) → packetReplays t q j ≡ true → (i : ℕ) → i < capacity t → wordAt t i rootCount ≤ ceiling → replays (suc i) (wordAt t i rootCount) (oldest q j) ≡ true → replays (suc i) (wordAt t i rootCount) (oldest q (suc j)) ≡ true
+  stage-all : (j : ℕ) → packetReplays t q j ≡ true → (i : ℕ) → i < capacity t → wordAt t i rootCount ≤ ceiling
+      → replays (suc i) (wordAt t i rootCount) (oldest q j) ≡ true → replays (suc i) (wordAt t i rootCount) (oldest q (suc j)) ≡ true
   unfolding packetReplays
   stage-all j h i l b r = rw (oldest-more j) go
     where
@@ -198,10 +206,13 @@ module _ (t : List ℕ) (q : Queue) where
           (λ dc. idle-stage (suc i) n (oldest q j) p b r (eqb-false (p .a) (suc i) da) (eqb-false (p .b) (suc i) db) (eqb-false (p .c) (suc i) dc))
           (tested (eqb (p .c) (suc i)))) (tested (eqb (p .b) (suc i)))) (tested (eqb (p .a) (suc i)))
 
-  all-stages : (m : ℕ) → every m (packetReplays t q) ≡ true → (i : ℕ) → i < capacity t → wordAt t i rootCount ≤ ceiling → replays (suc i) (wordAt t i rootCount) (oldest q m) ≡ true
+  all-stages : (m : ℕ) → every m (packetReplays t q) ≡ true → (i : ℕ) → i < capacity t → wordAt t i rootCount ≤ ceiling
+      → replays (suc i) (wordAt t i rootCount) (oldest q m) ≡ true
   unfolding every
   all-stages zero h i l b = unfold oldest packetsFrom replays in refl
-  all-stages (suc m) h i l b = stage-all m (and-second (every m (packetReplays t q)) (packetReplays t q m) h) i l b (all-stages m (and-first (every m (packetReplays t q)) (packetReplays t q m) h) i l b)
+  all-stages (suc m) h i l b =
+      stage-all m (and-second (every m (packetReplays t q)) (packetReplays t q m) h) i l b
+      (all-stages m (and-first (every m (packetReplays t q)) (packetReplays t q m) h) i l b)
 
   -- the packets' own words decide for all cells, where no root count is above the ceiling
   pub replay-exact : cellsSound t ≡ true → every (q .count) (packetReplays t q) ≡ replaysAll t q
@@ -212,11 +223,16 @@ module _ (t : List ℕ) (q : Queue) where
       test i = replays (suc i) (wordAt t i rootCount) (waiting q)
 
       there : every (q .count) (packetReplays t q) ≡ true → every (capacity t) test ≡ true
-      there h = every-all (capacity t) test (λ i l. all-stages (q .count) h i l (counts-facts t i (cell-counts t i (every-at (capacity t) (cellSound t) s i l)) .1))
+      there h =
+          every-all (capacity t) test
+          (λ i l. all-stages (q .count) h i l (counts-facts t i (cell-counts t i (every-at (capacity t) (cellSound t) s i l)) .1))
 
       back : every (capacity t) test ≡ true → every (q .count) (packetReplays t q) ≡ true
-      back h = every-all (q .count) (packetReplays t q) (λ j l. one j (λ x. word-back j x (λ i m. oldest-replays (suc i) (wordAt t i rootCount) (q .count) (suc j) l (every-at (capacity t) test h i m))))
+      back h = every-all (q .count) (packetReplays t q) (λ j l. one j (λ x. word-back j x (up-to j l)))
         where
+          up-to : (j : ℕ) → j < q .count → (i : ℕ) → i < capacity t → replays (suc i) (wordAt t i rootCount) (oldest q (suc j)) ≡ true
+          up-to j l i m = oldest-replays (suc i) (wordAt t i rootCount) (q .count) (suc j) l (every-at (capacity t) test h i m)
+
           one : (j : ℕ) → ((x : ℕ) → wordReplays t q j x ≡ true) → packetReplays t q j ≡ true
           one j f = unfold packetReplays in and-both (and-both (f (packetOn q j .a)) (f (packetOn q j .b))) (f (packetOn q j .c))
 
@@ -267,6 +283,7 @@ module _ (t : List ℕ) (q : Queue) (j x : ℕ) where
   unfolding wordReplays
   no-cell-replays h = rw h
 
-  pub cell-replays : isCell (capacity t) x ≡ true → (n : ℕ) (r : Bool) → n ≡ wordAt t (x - 1) rootCount → r ≡ stageSound x n (oldest q j) (packetOn q j) → r ≡ wordReplays t q j x
+  pub cell-replays : isCell (capacity t) x ≡ true → (n : ℕ) (r : Bool) → n ≡ wordAt t (x - 1) rootCount
+      → r ≡ stageSound x n (oldest q j) (packetOn q j) → r ≡ wordReplays t q j x
   unfolding wordReplays
   cell-replays h n r e k = rw (h, ← (sub-one x), ← e) k

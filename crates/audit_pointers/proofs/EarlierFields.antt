@@ -77,7 +77,8 @@ fielded k =
     (fielded-cond (eqb k 4) raises _ tt
     (fielded-cond (eqb k 5) lowers _ tt (fielded-cond (eqb k 6) (replaces right) unknown (omega arith) tt)))))
 
-placed-of : (t : List ℕ) (k : Kind) (a b c : ℕ) → capacity t ≤ mostCells → Fielded k → wordsOfKind (capacity t) k a b c ≡ true → everyOf (namesOf k a b c) (fieldSound t) ≡ true → PlacedOf t k c
+placed-of : (t : List ℕ) (k : Kind) (a b c : ℕ) → capacity t ≤ mostCells → Fielded k → wordsOfKind (capacity t) k a b c ≡ true
+    → everyOf (namesOf k a b c) (fieldSound t) ≡ true → PlacedOf t k c
 unfolding wordsOfKind namesOf
 placed-of t reads a b c m f h n = tt
 placed-of t makes a b c m f h n =
@@ -117,7 +118,8 @@ module _ (q : Queue) where
   newer-all = ap₂ (packetsFrom q) (omega arith) (omega arith)
 
   -- what holds with no newer packet, and with one more, holds of them all
-  newer-ind : (P : List Packet → Type 0) → P [] → ((j : ℕ) → j < q .count → P (newer q (j + 1)) → P (packetOn q j ∷ newer q (j + 1))) → (n j : ℕ) → j + n ≡ q .count → P (newer q j)
+  newer-ind : (P : List Packet → Type 0) → P [] → ((j : ℕ) → j < q .count → P (newer q (j + 1)) → P (packetOn q j ∷ newer q (j + 1))) → (n j : ℕ)
+      → j + n ≡ q .count → P (newer q j)
   newer-ind P none more zero j e = rw (newer-none j (omega arith)) none
   newer-ind P none more (suc n) j e = rw (newer-step j (omega arith)) (more j (omega arith) (newer-ind P none more n (j + 1) (omega arith)))
 
@@ -144,7 +146,8 @@ refielded-put t v i k w l h = record {
 refielded-undone : (t v : List ℕ) (k : Kind) (a b c : ℕ) → PlacedOf t k c → Refielded t v → Refielded t (undoneOf v k a b c)
 unfolding undoneOf
 refielded-undone t v reads a b c p h = h
-refielded-undone t v makes a b c p h = refielded-put t (putWord v (pred c) left 0) (pred c) right 0 (omega arith) (refielded-put t v (pred c) left 0 (omega arith) h)
+refielded-undone t v makes a b c p h =
+    refielded-put t (putWord v (pred c) left 0) (pred c) right 0 (omega arith) (refielded-put t v (pred c) left 0 (omega arith) h)
 refielded-undone t v (replaces k) a b c p h = refielded-put t v (pred c) k b (p .3) h
 refielded-undone t v raises a b c p h = h
 refielded-undone t v lowers a b c p h = h
@@ -171,7 +174,8 @@ module _ (t v : List ℕ) (h : Refielded t v) (f : tableLength (capacity t) ≤ 
       u : List ℕ
       u = putWord v (pred c) left 0
 
-      two : (m : ℕ) → m ≤ right → wordAt (putWord u (pred c) right 0) i m ≡ cond (eqb right m && eqb (pred c) i) 0 (cond (eqb left m && eqb (pred c) i) 0 (wordAt v i m))
+      two : (m : ℕ) → m ≤ right
+          → wordAt (putWord u (pred c) right 0) i m ≡ cond (eqb right m && eqb (pred c) i) 0 (cond (eqb left m && eqb (pred c) i) 0 (wordAt v i m))
       two m l =
           word-put u (pred c) right 0 i m (inside-put v (pred c) left 0 (pred c) (inside (pred c) (p .1))) (omega arith) (omega arith)
           ∙ ap (λ (w : ℕ). cond (eqb right m && eqb (pred c) i) 0 w) (word-put v (pred c) left 0 i m (inside (pred c) (p .1)) (omega arith) (omega arith))
@@ -180,12 +184,15 @@ module _ (t v : List ℕ) (h : Refielded t v) (f : tableLength (capacity t) ≤ 
       go zero l = rw (same-cell c i (p .0)) (two left l)
       go (suc zero) l = rw (same-cell c i (p .0)) (two right l)
       go (suc (suc m)) l = absurd (omega arith)
-  field-undone (replaces k) a b c p i m l = let n = p .3 in rw (same-cell c i (p .0)) (word-put v (pred c) k b i m (inside (pred c) (p .1)) (omega arith) (omega arith))
+  field-undone (replaces k) a b c p i m l =
+      let n = p .3 in
+      rw (same-cell c i (p .0)) (word-put v (pred c) k b i m (inside (pred c) (p .1)) (omega arith) (omega arith))
   field-undone raises a b c p i m l = refl
   field-undone lowers a b c p i m l = refl
   field-undone unknown a b c p i m l = refl
 
-pub stage-field : (t : List ℕ) (ps : List Packet) → tableLength (capacity t) ≤ length t → AllPlaced t ps → (i k : ℕ) → k ≤ right → wordAt (before t ps) i k ≡ stageField t ps i k
+pub stage-field : (t : List ℕ) (ps : List Packet) → tableLength (capacity t) ≤ length t → AllPlaced t ps → (i k : ℕ) → k ≤ right
+    → wordAt (before t ps) i k ≡ stageField t ps i k
 unfolding before undone stageField fieldBefore
 stage-field t [] f a i k l = refl
 stage-field t (p ∷ ps) f a i k l =
@@ -197,7 +204,8 @@ unfolding fieldBefore
 before-by p i k w κ e = rw e
 
 -- one packet more undone
-pub stage-less : (t : List ℕ) (q : Queue) (i k w j : ℕ) → 0 < j → j ≤ q .count → w ≡ stageField t (newer q j) i k → fieldBefore (packetOn q (j - 1)) i k w ≡ stageField t (newer q (j - 1)) i k
+pub stage-less : (t : List ℕ) (q : Queue) (i k w j : ℕ) → 0 < j → j ≤ q .count → w ≡ stageField t (newer q j) i k
+    → fieldBefore (packetOn q (j - 1)) i k w ≡ stageField t (newer q (j - 1)) i k
 unfolding stageField
 stage-less t q i k w j l m e =
     let d : newer q j ≡ newer q (j - 1 + 1) = ap (newer q) (omega arith) in

@@ -23,7 +23,10 @@ module _ (v : List ℕ) (i k w x : ℕ) (f : tableLength (capacity v) ≤ length
   elsewhere : (j : ℕ) → (j ≡ i → ⊥) → pointersFrom v′ x j ≡ pointersFrom v x j
   unfolding pointersFrom
   elsewhere j d =
-      rw (use-put j, word-other v i k w j left (omega arith) (omega arith) (λ a b. d (sym a)), word-other v i k w j right (omega arith) (omega arith) (λ a b. d (sym a)))
+      rw (use-put j, other left (omega arith), other right (omega arith))
+    where
+      other : (m : ℕ) → m ≤ right → wordAt v′ j m ≡ wordAt v j m
+      other m h = word-other v i k w j m (omega arith) (omega arith) (λ a b. d (sym a))
 
   from-used : (z : List ℕ) → inUse z i ≡ true → pointersFrom z x i ≡ matching (wordAt z i left) x 1 + matching (wordAt z i right) x 1
   unfolding pointersFrom
@@ -54,5 +57,6 @@ module _ (v : List ℕ) (i k w x : ℕ) (f : tableLength (capacity v) ≤ length
   pointers-put =
       let e : total (capacity v) (pointersFrom v′ x) + pointersFrom v x i ≡ total (capacity v) (pointersFrom v x) + pointersFrom v′ x i =
       total-at (capacity v) (pointersFrom v′ x) (pointersFrom v x) i l (λ j m d. elsewhere j d) in
-      let c : total (capacity v′) (pointersFrom v′ x) ≡ total (capacity v) (pointersFrom v′ x) = ap (λ (n : ℕ). total n (pointersFrom v′ x)) (capacity-putWord v i k w) in
+      let c : total (capacity v′) (pointersFrom v′ x) ≡ total (capacity v) (pointersFrom v′ x) =
+      ap (λ (n : ℕ). total n (pointersFrom v′ x)) (capacity-putWord v i k w) in
       omega (arith, here)

@@ -42,7 +42,10 @@ module _ (v v′ : List ℕ) (c b : ℕ) (s : List ℕ) (cv : capacity v ≡ c) 
     (counts : (i : ℕ) → i < c → getD s i 0 ≡ pointers v′ (suc i)) where
   there : wordWithin c s b ≡ true → (i : ℕ) → i < capacity v′ → pointers v′ (suc i) ≤ ceiling
   unfolding wordWithin countWithin
-  there h i l = ⊎-elim (λ e. here (eqb-true b (suc i) e)) (λ e. omega (arith, gain i (omega arith), within-is v .0 w i (omega arith), matching-other b (suc i) 1 (eqb-false b (suc i) e))) (tested (eqb b (suc i)))
+  there h i l =
+      ⊎-elim (λ e. here (eqb-true b (suc i) e))
+      (λ e. omega (arith, gain i (omega arith), within-is v .0 w i (omega arith), matching-other b (suc i) 1 (eqb-false b (suc i) e)))
+      (tested (eqb b (suc i)))
     where
       here : b ≡ suc i → pointers v′ (suc i) ≤ ceiling
       here e =
@@ -111,10 +114,13 @@ module _ (t : List ℕ) (q : Queue) (j : ℕ) (s : List ℕ) (h : Undoable t q j
       unfolding undoableOf
       replace-no d = undoes-no v (undoneOf v (replaces k) a b x) (eqb (field v x k) a) (capacity t) s (ne-eqb (field v x k) a (λ f. d (holds ∙ f)))
 
-      pub replace-yes : (c : ℕ) (s₁ s₂ : List ℕ) (r : Bool) → c ≡ capacity t → w ≡ a → CountUp c b s s₁ → CountDown c a s₁ s₂ → r ≡ wordWithin c s₂ b → UndoesKind t q j (replaces k) a b x s s₂ r
+      pub replace-yes : (c : ℕ) (s₁ s₂ : List ℕ) (r : Bool) → c ≡ capacity t → w ≡ a → CountUp c b s s₁ → CountDown c a s₁ s₂ → r ≡ wordWithin c s₂ b
+          → UndoesKind t q j (replaces k) a b x s s₂ r
       unfolding undoableOf undoneOf
       replace-yes c s₁ s₂ r m f up down g = record {
-        answer = g ∙ within-word v v′ c b s₂ (re .sameCapacity ∙ sym m) (capacity-putWord v (pred x) k b ∙ re .sameCapacity ∙ sym m) (h .within) (λ i l. omega (arith, sum i)) counts
+        answer = g
+            ∙ within-word v v′ c b s₂ (re .sameCapacity ∙ sym m) (capacity-putWord v (pred x) k b ∙ re .sameCapacity ∙ sym m) (h .within)
+            (λ i l. omega (arith, sum i)) counts
             ∙ and-decides (pointersWithin v′) (eq-eqb (field v x k) a (sym holds ∙ f));
         each = λ _ i l. counts i (omega arith);
         past = rw (← m) (down .past ∙ up .past);
@@ -146,12 +152,15 @@ module _ (t : List ℕ) (q : Queue) (j : ℕ) (s : List ℕ) (h : Undoable t q j
             undoes-no v (undoneOf v makes a b x) (eqb (field v x left) a && eqb (field v x right) b) (capacity t) s
             (and-no-second (eqb (field v x left) a) (ne-eqb (field v x right) b (λ f. d (holds right a b z (omega arith) er ∙ f))))
 
-        pub cons-yes : (c : ℕ) (s₁ s₂ : List ℕ) → c ≡ capacity t → w ≡ a → z ≡ b → CountDown c a s s₁ → CountDown c b s₁ s₂ → UndoesKind t q j makes a b x s s₂ true
+        pub cons-yes : (c : ℕ) (s₁ s₂ : List ℕ) → c ≡ capacity t → w ≡ a → z ≡ b → CountDown c a s s₁ → CountDown c b s₁ s₂
+            → UndoesKind t q j makes a b x s s₂ true
         unfolding undoableOf undoneOf
         cons-yes c s₁ s₂ m f g one two = record {
           answer = sym (nil-within c s₂)
               ∙ within-word v v₂ c 0 s₂ (re .sameCapacity ∙ sym m) (cap ∙ re .sameCapacity ∙ sym m) (h .within) (λ i l. omega (arith, sum i)) counts
-              ∙ and-decides (pointersWithin v₂) (and-both (eq-eqb (field v x left) a (sym (holds left a b w (omega arith) el) ∙ f)) (eq-eqb (field v x right) b (sym (holds right a b z (omega arith) er) ∙ g)));
+              ∙ and-decides (pointersWithin v₂)
+              (and-both (eq-eqb (field v x left) a (sym (holds left a b w (omega arith) el) ∙ f))
+              (eq-eqb (field v x right) b (sym (holds right a b z (omega arith) er) ∙ g)));
           each = λ _ i l. counts i (omega arith);
           past = rw (← m) (two .past ∙ one .past);
         }
@@ -169,10 +178,14 @@ module _ (t : List ℕ) (q : Queue) (j : ℕ) (s : List ℕ) (h : Undoable t q j
             heldLeft = unfold field in (sym (holds left a b w (omega arith) el) ∙ f)
 
             heldRight : wordAt v₁ (pred x) right ≡ b
-            heldRight = word-other v (pred x) left 0 (pred x) right (omega arith) (omega arith) (λ _ y. omega arith) ∙ (unfold field in (sym (holds right a b z (omega arith) er) ∙ g))
+            heldRight =
+                word-other v (pred x) left 0 (pred x) right (omega arith) (omega arith) (λ _ y. omega arith)
+                ∙ (unfold field in (sym (holds right a b z (omega arith) er) ∙ g))
 
             first : (i : ℕ) → pointers v₁ (suc i) + matching a (suc i) 1 ≡ pointers v (suc i) + matching 0 (suc i) 1
-            first i = ap (λ (n : ℕ). pointers v₁ (suc i) + matching n (suc i) 1) (sym heldLeft) ∙ pointers-put v (pred x) left 0 (suc i) long low (omega arith) used
+            first i =
+                ap (λ (n : ℕ). pointers v₁ (suc i) + matching n (suc i) 1) (sym heldLeft)
+                ∙ pointers-put v (pred x) left 0 (suc i) long low (omega arith) used
 
             second : (i : ℕ) → pointers v₂ (suc i) + matching b (suc i) 1 ≡ pointers v₁ (suc i) + matching 0 (suc i) 1
             second i =
@@ -213,7 +226,8 @@ module _ (t : List ℕ) (q : Queue) (j : ℕ) (s : List ℕ) (h : Undoable t q j
     pub undo-kind : (κ : Kind) (s′ : List ℕ) (r : Bool) → kindOf (p .kind) ≡ κ → UndoesKind t q j κ (p .a) (p .b) (p .c) s s′ r → UndoesPacket t q j s s′ r
     undo-kind κ s′ r k u =
         subst (λ (z : List ℕ). Undoes (stage t q (j + 1)) z (undoable (stage t q (j + 1)) (packetOn q j)) (capacity t) s s′ r) (as-undone ∙ sym stage-undone)
-        (subst (λ (b : Bool). Undoes (stage t q (j + 1)) (undoneOf (stage t q (j + 1)) κ (p .a) (p .b) (p .c)) b (capacity t) s s′ r) (as-undoable ∙ ap (undoable (stage t q (j + 1))) e) u)
+        (subst (λ (b : Bool). Undoes (stage t q (j + 1)) (undoneOf (stage t q (j + 1)) κ (p .a) (p .b) (p .c)) b (capacity t) s s′ r)
+        (as-undoable ∙ ap (undoable (stage t q (j + 1))) e) u)
       where
         as-undone : undoneOf (stage t q (j + 1)) κ (p .a) (p .b) (p .c) ≡ undone (stage t q (j + 1)) p
         as-undone = unfold undone in (rw k)

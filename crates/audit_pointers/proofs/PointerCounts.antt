@@ -100,7 +100,8 @@ down-zero c w s e = record {
 
 -- the pointers out of one cell
 module _ (t : List ℕ) (j : ℕ) where
-  pub cell-counted : (n : ℕ) (s s₁ s₂ : List ℕ) (l r : ℕ) → n ≡ capacity t → inUse t j ≡ true → l ≡ wordAt t j left → r ≡ wordAt t j right → CountUp n l s s₁ → CountUp n r s₁ s₂ → CountCell t j s s₂
+  pub cell-counted : (n : ℕ) (s s₁ s₂ : List ℕ) (l r : ℕ) → n ≡ capacity t → inUse t j ≡ true → l ≡ wordAt t j left → r ≡ wordAt t j right
+      → CountUp n l s s₁ → CountUp n r s₁ s₂ → CountCell t j s s₂
   unfolding pointersFrom
   cell-counted n s s₁ s₂ l r e u el er h k = record {
     each = λ i b. rw (u, ← el, ← er) (omega (arith, h .each i (omega arith), k .each i (omega arith)));

@@ -25,7 +25,8 @@ use Rattle.audit_pointers.proofs.EarlierFields.{newer-step, newer-none,
 use Rattle.audit_cells.proofs.Tests.{refuted, and-decides, every-same}
 
 module _ (t : List ℕ) (q : Queue) where
-  undoes-step : (j : ℕ) → j < q .count → undoes t (newer q j) ≡ undoes t (newer q (j + 1)) && (undoable (stage t q (j + 1)) (packetOn q j) && pointersWithin (stage t q j))
+  undoes-step : (j : ℕ) → j < q .count
+      → undoes t (newer q j) ≡ undoes t (newer q (j + 1)) && (undoable (stage t q (j + 1)) (packetOn q j) && pointersWithin (stage t q j))
   unfolding stage undoes
   undoes-step j l =
       rw (newer-step q j l)
@@ -49,7 +50,8 @@ module _ (t : List ℕ) (q : Queue) where
   stageable-kept : (s s′ : List ℕ) → Stageable t q s → length s′ ≡ length s → Stageable t q s′
   stageable-kept s s′ a n = record { lent = record { shape = a .lent .shape; scratch = rw n (a .lent .scratch) }; legal = a .legal }
 
-  pub undo-more : (j : ℕ) (s₀ s s′ : List ℕ) (r : Bool) → Undoing t q j s₀ s → 0 < j → UndoesPacket t q (j - 1) s s′ r → r ≡ true → length s′ ≡ length s → Undoing t q (j - 1) s₀ s′
+  pub undo-more : (j : ℕ) (s₀ s s′ : List ℕ) (r : Bool) → Undoing t q j s₀ s → 0 < j → UndoesPacket t q (j - 1) s s′ r → r ≡ true
+      → length s′ ≡ length s → Undoing t q (j - 1) s₀ s′
   undo-more j s₀ s s′ r h l u k n =
       let m = h .some in
       let e : j - 1 + 1 ≡ j = omega arith in record {
@@ -66,16 +68,19 @@ module _ (t : List ℕ) (q : Queue) where
   undoes-to h zero l = ap (undoes t) (newer-all q) ∙ h
   undoes-to h (suc j) l =
       ap (λ (n : ℕ). undoes t (newer q n)) (sym (add-one j))
-      ∙ and-first (undoes t (newer q (j + 1))) (undoable (stage t q (j + 1)) (packetOn q j) && pointersWithin (stage t q j)) (sym (undoes-step j (omega arith)) ∙ undoes-to h j (omega arith))
+      ∙ and-first (undoes t (newer q (j + 1))) (undoable (stage t q (j + 1)) (packetOn q j) && pointersWithin (stage t q j))
+      (sym (undoes-step j (omega arith)) ∙ undoes-to h j (omega arith))
 
   sound-undoes : pointersSound t (waiting q) ≡ true → undoes t (waiting q) ≡ true
   unfolding pointersSound
   sound-undoes h = and-first (undoes t (waiting q)) (every (capacity t) (λ i. eqb (wordAt t i cellCount) (pointers (before t (waiting q)) (suc i)))) h
 
-  pub undo-broken : (j : ℕ) (s s′ : List ℕ) (r : Bool) → j ≤ q .count → 0 < j → UndoesPacket t q (j - 1) s s′ r → r ≡ false → pointersSound t (waiting q) ≡ false
+  pub undo-broken : (j : ℕ) (s s′ : List ℕ) (r : Bool) → j ≤ q .count → 0 < j → UndoesPacket t q (j - 1) s s′ r → r ≡ false
+      → pointersSound t (waiting q) ≡ false
   undo-broken j s s′ r m l u k =
       refuted (pointersSound t (waiting q)) (λ h. not-both
-      (and-second (undoes t (newer q (j - 1 + 1))) (undoable (stage t q (j - 1 + 1)) (packetOn q (j - 1)) && pointersWithin (stage t q (j - 1))) (sym (undoes-step (j - 1) (omega arith)) ∙ undoes-to (sound-undoes h) (j - 1) (omega arith)))
+      (and-second (undoes t (newer q (j - 1 + 1))) (undoable (stage t q (j - 1 + 1)) (packetOn q (j - 1)) && pointersWithin (stage t q (j - 1)))
+      (sym (undoes-step (j - 1) (omega arith)) ∙ undoes-to (sound-undoes h) (j - 1) (omega arith)))
       (sym (u .answer) ∙ k))
 
   -- at the end the cell counts are compared

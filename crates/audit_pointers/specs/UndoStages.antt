@@ -61,7 +61,7 @@ UndoesKind t q j κ a b c s s′ r =
 abbrev pub UndoesPacket : List ℕ → Queue → ℕ → List ℕ → List ℕ → Bool → Type 0
 UndoesPacket t q j s s′ r = Undoes (stage t q (j + 1)) (stage t q j) (undoable (stage t q (j + 1)) (packetOn q j)) (capacity t) s s′ r
 
--- a rule's answer, with the scratch's words past those that c cells need as they were
-pub record Audits (c : ℕ) (rule : Bool) (s s′ : List ℕ) (r : Bool) : Type 0 where
+-- a rule's answer, with the scratch's words past those that the table needs as they were
+pub record Audits (t : List ℕ) (rule : Bool) (s s′ : List ℕ) (r : Bool) : Type 0 where
   pub answer : r ≡ rule
-  pub past : drop (scratchWords c) s′ ≡ drop (scratchWords c) s
+  pub past : drop (scratchWords (capacity t)) s′ ≡ drop (scratchWords (capacity t)) s

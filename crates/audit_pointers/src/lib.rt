@@ -14,7 +14,7 @@ use audit_packets::slots::packet_on;
 use machine::Queue;
 use queue::Packet;
 ghost use Prim.Native.Nat.{_<_, _≤_};
-ghost use Rattle.machine.specs.Table.{right, capacity};
+ghost use Rattle.machine.specs.Table.{right};
 ghost use Rattle.machine.specs.Queue.{waiting};
 ghost use Rattle.machine.specs.Packets.{makes, replaces};
 ghost use Rattle.machine.specs.Audit.{pointersSound};
@@ -94,7 +94,7 @@ fn undo(table: &[u16], queue: Queue, j: u16, scratch: &mut [u16]) -> bool
 
 fn undo_all(table: &[u16], queue: Queue, scratch: &mut [u16]) -> bool
     requires { ⌜ Undoing (now table) queue (queue .count) (now scratch) (now scratch) ⌝ }
-    ensures { λ r. ⌜ Audits (capacity (now (table .entry))) (pointersSound (now (table .entry)) (waiting queue)) (now (scratch .entry)) (now (scratch .exit)) r ⌝ }
+    ensures { λ r. ⌜ Audits (now (table .entry)) (pointersSound (now (table .entry)) (waiting queue)) (now (scratch .entry)) (now (scratch .exit)) r ⌝ }
 {
     let mut j = queue.count;
     while 0 < j {
@@ -109,7 +109,7 @@ fn undo_all(table: &[u16], queue: Queue, scratch: &mut [u16]) -> bool
 // Exact where S3 holds, which is asked before.
 pub fn pointers_sound(table: &[u16], queue: Queue, scratch: &mut [u16]) -> bool
     requires { ⌜ Stageable (now table) queue (now scratch) ⌝ }
-    ensures { λ r. ⌜ Audits (capacity (now (table .entry))) (pointersSound (now (table .entry)) (waiting queue)) (now (scratch .entry)) (now (scratch .exit)) r ⌝ }
+    ensures { λ r. ⌜ Audits (now (table .entry)) (pointersSound (now (table .entry)) (waiting queue)) (now (scratch .entry)) (now (scratch .exit)) r ⌝ }
 {
     let c = cells::capacity_of(table);
     count_pointers(table, scratch, c);

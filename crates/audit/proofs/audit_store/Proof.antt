@@ -1,4 +1,3 @@
-use mathlib.Core.Path.{_≡_, ap}
 use native.Mathlib.Omega.{arith}
 use borrow.Author.Needs.{needs}
 use Rattle.audit_pointers.proofs.PointerCounts.{scratch-of}

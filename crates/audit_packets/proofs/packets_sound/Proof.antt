@@ -27,7 +27,11 @@ packets-replay-requires c κs = search needs
 
 returns-3 : tie.Need-returns-3
 unfolding packetsSound replaysAll
-returns-3 c = c .packets-replay .ensures ∙ third-decides _ (passed (c .before .before .before .before .other-slots-zero .ensures) (c .before .before .before .if1 .left)) (passed (c .before .before .packets-legal .ensures) (c .before .if2 .left))
+returns-3 c =
+    let at-if2 = c .before in
+    let at-if1 = at-if2 .before .before in
+    let zero = passed (at-if1 .before .other-slots-zero .ensures) (at-if1 .if1 .left) in
+    c .packets-replay .ensures ∙ third-decides _ zero (passed (at-if2 .before .packets-legal .ensures) (at-if2 .if2 .left))
 
 pub packets-sound-spec : {M : Type 1} → statement M
 packets-sound-spec =

@@ -19,7 +19,8 @@ undo-cons-requires c κs =
     let start = at-packet .before .before .before in
     let i = start .args in
     let p = packetOf (at-packet .packet-on .result) in
-    let used = makes-used (i .table .now) (i .queue) (i .j) (i .scratch .now) (start .pre) p (at-packet .packet-on .ensures) (ap kindOf (c .before .match .keys1)) in
+    let used = makes-used (i .table .now) (i .queue) (i .j) (i .scratch .now) (start .pre) p (at-packet .packet-on .ensures)
+    (ap kindOf (c .before .match .keys1)) in
     (start .pre, used)
 
 undo-replace-requires : tie.Need-undo-replace-requires
@@ -29,7 +30,8 @@ undo-replace-requires c κs =
     let start = at-packet .before .before .before in
     let i = start .args in
     let p = packetOf (at-packet .packet-on .result) in
-    let used = replaces-used (i .table .now) (i .queue) (i .j) (i .scratch .now) (start .pre) p (at-packet .packet-on .ensures) left (ap kindOf (c .before .match .keys2)) in
+    let used = replaces-used (i .table .now) (i .queue) (i .j) (i .scratch .now) (start .pre) p (at-packet .packet-on .ensures) left
+    (ap kindOf (c .before .match .keys2)) in
     (start .pre, used, omega arith)
 
 undo-replace-requires-2 : tie.Need-undo-replace-requires-2
@@ -39,7 +41,8 @@ undo-replace-requires-2 c κs =
     let start = at-packet .before .before .before in
     let i = start .args in
     let p = packetOf (at-packet .packet-on .result) in
-    let used = replaces-used (i .table .now) (i .queue) (i .j) (i .scratch .now) (start .pre) p (at-packet .packet-on .ensures) right (ap kindOf (c .before .match .keys3)) in
+    let used = replaces-used (i .table .now) (i .queue) (i .j) (i .scratch .now) (start .pre) p (at-packet .packet-on .ensures) right
+    (ap kindOf (c .before .match .keys3)) in
     (start .pre, used, omega arith)
 
 same-length : tie.Need-same-length

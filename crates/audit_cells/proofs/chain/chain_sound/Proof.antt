@@ -15,7 +15,9 @@ free-cells-requires : tie.Need-free-cells-requires
 free-cells-requires c κs = search needs
 
 chain-walks-requires : tie.Need-chain-walks-requires
-chain-walks-requires c κs = (c .before .before .before .before .pre, passed (c .before .before .free-laid-out .ensures) (c .before .if1 .left), c .free-cells .ensures)
+chain-walks-requires c κs =
+    let at-laid-out = c .before .before in
+    (at-laid-out .before .before .pre, passed (at-laid-out .free-laid-out .ensures) (c .before .if1 .left), c .free-cells .ensures)
 
 returns-2 : tie.Need-returns-2
 returns-2 c = search needs

@@ -27,7 +27,10 @@ is-free-cell-requires : tie.Need-is-free-cell-requires Inv-loop μ-loop
 is-free-cell-requires c κs = search needs
 
 returns : tie.Need-returns Inv-loop μ-loop
-returns c = sym (refuted _ (λ h. not-both (walk-next _ h _ _ _ _ (c .before .before .before .loop .inv .2) (omega arith)) (failed (c .before .is-free-cell .ensures) (c .if1 .taken))))
+returns c =
+    let at-cell = c .before in
+    let inv = at-cell .before .before .loop .inv .2 in
+    sym (refuted _ (λ h. not-both (walk-next _ h _ _ _ _ inv (omega arith)) (failed (at-cell .is-free-cell .ensures) (c .if1 .taken))))
 
 sub-field : tie.Need-sub-field Inv-loop μ-loop
 sub-field c = let f = free-cell _ _ (passed (c .before .is-free-cell .ensures) (c .if1 .left)) in omega arith
@@ -45,7 +48,11 @@ loop-less : tie.Need-loop-less Inv-loop μ-loop
 loop-less c = search needs
 
 loop-again : tie.Need-loop-again Inv-loop μ-loop
-loop-again c = (omega arith, _, walked-more _ _ _ _ _ _ (c .before .before .before .before .loop .inv .2) (passed (c .before .before .is-free-cell .ensures) (c .before .if1 .left)) (c .field .ensures))
+loop-again c =
+    let at-if1 = c .before in
+    let at-cell = at-if1 .before in
+    let inv = at-cell .before .before .loop .inv .2 in
+    (omega arith, _, walked-more _ _ _ _ _ _ inv (passed (at-cell .is-free-cell .ensures) (at-if1 .if1 .left)) (c .field .ensures))
 
 returns-2 : tie.Need-returns-2 Inv-loop μ-loop
 returns-2 c = sym (refuted _ (λ h. c .if2 .taken (walk-stops _ h _ _ _ _ (c .before .before .loop .inv .2) (omega arith) .0)))
@@ -55,10 +62,13 @@ last-free-requires c κs = search needs
 
 returns-3 : tie.Need-returns-3 Inv-loop μ-loop
 returns-3 c =
-    let t = c .before .before .before .before .before .before .args .table .now in
-    let l = c .before .before .before .loop in
+    let at-loop = c .before .before .before in
+    let start = at-loop .before .before .before in
+    let t = start .args .table .now in
+    let l = at-loop .loop in
     let e : l .steps ≡ freeCells t = omega arith in
-    ap (eqb (l .last)) (c .last-free .ensures) ∙ walk-ends t (l .w) (l .last) (l .inv .1) (rw e at (l .inv .2)) (c .before .if2 .left) (c .before .before .before .before .before .before .pre .1)
+    ap (eqb (l .last)) (c .last-free .ensures)
+    ∙ walk-ends t (l .w) (l .last) (l .inv .1) (rw e at (l .inv .2)) (c .before .if2 .left) (start .pre .1)
 
 pub chain-walks-spec : {M : Type 1} → statement M
 chain-walks-spec =

@@ -1,9 +1,8 @@
-use mathlib.Core.Path.{_≡_, sym, ap, _∙_}
-use mathlib.Core.Bool.{true, not}
+use mathlib.Core.Path.{sym, ap, _∙_}
+use mathlib.Core.Bool.{not}
 use native.Mathlib.Omega.{arith}
 use borrow.Author.Needs.{needs}
 use Rattle.machine.specs.Table.{capacity}
-use Rattle.machine.specs.Words.{isCell}
 use Rattle.machine.proofs.Words.{cell-number, cell-place}
 use Rattle.audit_cells.proofs.Cells.{cell-asked}
 use Rattle.audit_cells.proofs.FreeChain.{no-cell-not-free, cell-free}

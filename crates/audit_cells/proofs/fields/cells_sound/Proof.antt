@@ -1,13 +1,13 @@
 use mathlib.Core.Path.{_≡_, sym, _∙_}
 use mathlib.Core.Logic.{⊎-elim}
 use mathlib.Core.Bool.{true}
-use Prim.Native.Nat.{ℕ, _-_, _≤_, _<_}
+use Prim.Native.Nat.{ℕ, suc, _-_, _≤_}
 use native.Mathlib.Omega.{arith}
 use borrow.Author.Tests.{eq-eqb, ne-eqb}
 use borrow.Author.Needs.{needs}
 use Rattle.machine.specs.Audit.{cellSound, cellsSound}
 use Rattle.machine.specs.Range.{every}
-use Rattle.machine.specs.Table.{capacity}
+use Rattle.machine.specs.Table.{left, right, capacity}
 use Rattle.machine.proofs.Range.{every-at}
 use Rattle.audit_cells.specs.Cells.{fieldHolds}
 use Rattle.audit_cells.proofs.Cells.{cell-parts, counts-break, field-break}
@@ -16,10 +16,10 @@ use Rattle.audit_cells.proofs.fields.cells_sound.Statement.{statement}
 use Rattle.audit_cells.proofs.fields.cells_sound.Tie as tie
 
 abbrev Inv-loop : tie.InvT-loop
-Inv-loop table c index k₀ k = (k ≤ 2) × (every k (fieldHolds table index) ≡ true)
+Inv-loop table c index k₀ k = (k ≤ suc right) × (every k (fieldHolds table index) ≡ true)
 
 abbrev μ-loop : tie.MeasureT-loop
-μ-loop table c index k₀ k = 2 - k
+μ-loop table c index k₀ k = suc right - k
 
 abbrev Inv-cells : tie.InvT-cells
 Inv-cells table c index₀ index = (index ≤ c) × (every index (cellSound table) ≡ true)
@@ -62,10 +62,15 @@ cells-less c = search needs
 
 cells-again : tie.Need-cells-again Inv-loop μ-loop Inv-cells μ-cells
 cells-again c =
-    let t = c .before .before .before .before .before .before .before .before .args .table .now in
-    let i = c .before .before .before .before .before .cells .index in
-    let f : (k : ℕ) → k < 2 → fieldHolds t i k ≡ true = λ k l. every-at (c .before .loop .k) (fieldHolds t i) (c .before .loop .inv .1) k (omega arith) in
-    (omega arith, every-more _ _ (c .before .before .before .before .before .cells .inv .1) (cell-parts t i (passed (c .before .before .before .counts-sound .ensures) (c .before .before .if1 .left)) (f 0 (omega arith)) (f 1 (omega arith))))
+    let at-loop = c .before in
+    let at-if1 = at-loop .before in
+    let at-counts = at-if1 .before in
+    let at-cells = at-counts .before .before in
+    let t = at-cells .before .before .before .args .table .now in
+    let i = at-cells .cells .index in
+    let f : (k : ℕ) → k ≤ right → fieldHolds t i k ≡ true = λ k l. every-at (at-loop .loop .k) (fieldHolds t i) (at-loop .loop .inv .1) k (omega arith) in
+    let counts = passed (at-counts .counts-sound .ensures) (at-if1 .if1 .left) in
+    (omega arith, every-more _ _ (at-cells .cells .inv .1) (cell-parts t i counts (f left (omega arith)) (f right (omega arith))))
 
 returns : tie.Need-returns Inv-loop μ-loop Inv-cells μ-cells
 unfolding cellsSound

@@ -15,7 +15,10 @@ field-sound-requires : tie.Need-field-sound-requires
 field-sound-requires c κs = search needs
 
 returns : tie.Need-returns
-returns c = c .field-sound .ensures ∙ ap (fieldSound _) (c .before .field .ensures) ∙ field-used _ _ _ (sym (c .before .before .before .in-use .ensures) ∙ c .before .before .if1 .taken)
+returns c =
+    let at-if1 = c .before .before in
+    let used = sym (at-if1 .before .in-use .ensures) ∙ at-if1 .if1 .taken in
+    c .field-sound .ensures ∙ ap (fieldSound _) (c .before .field .ensures) ∙ field-used _ _ _ used
 
 returns-2 : tie.Need-returns-2
 returns-2 c = sym (field-free _ _ _ (sym (c .before .in-use .ensures) ∙ c .if1 .left))

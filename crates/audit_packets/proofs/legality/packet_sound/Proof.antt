@@ -17,8 +17,12 @@ words-legal-requires c κs = search needs
 returns : tie.Need-returns
 unfolding packetSound
 returns c =
-    let i = c .before .before .before .before .args in
-    sym (and-no-first (namesInUse (i .table .now) (packetOf (i .p))) (failed (c .before .words-legal .ensures ∙ words-of (i .table .now) (packetOf (i .p)) _ (c .before .before .capacity-of .ensures)) (c .if1 .taken)))
+    let at-words = c .before in
+    let at-capacity = at-words .before in
+    let i = at-capacity .before .before .args in
+    let p = packetOf (i .p) in
+    let e = at-words .words-legal .ensures ∙ words-of (i .table .now) p _ (at-capacity .capacity-of .ensures) in
+    sym (and-no-first (namesInUse (i .table .now) p) (failed e (c .if1 .taken)))
 
 names-in-use-requires : tie.Need-names-in-use-requires
 names-in-use-requires c κs = search needs
@@ -26,9 +30,12 @@ names-in-use-requires c κs = search needs
 returns-2 : tie.Need-returns-2
 unfolding packetSound
 returns-2 c =
-    let i = c .before .before .before .before .before .args in
-    c .names-in-use .ensures
-    ∙ and-decides (namesInUse (i .table .now) (packetOf (i .p))) (passed (c .before .before .words-legal .ensures ∙ words-of (i .table .now) (packetOf (i .p)) _ (c .before .before .before .capacity-of .ensures)) (c .before .if1 .left))
+    let at-words = c .before .before in
+    let at-capacity = at-words .before in
+    let i = at-capacity .before .before .args in
+    let p = packetOf (i .p) in
+    let e = at-words .words-legal .ensures ∙ words-of (i .table .now) p _ (at-capacity .capacity-of .ensures) in
+    c .names-in-use .ensures ∙ and-decides (namesInUse (i .table .now) p) (passed e (c .before .if1 .left))
 
 pub packet-sound-spec : {M : Type 1} → statement M
 packet-sound-spec =

@@ -27,9 +27,13 @@ packet-sound-requires c κs = search needs
 
 returns : tie.Need-returns Inv-loop μ-loop
 returns c =
-    let i = c .before .before .before .before .before .before .args in
-    sym (legal-every (i .table .now) (i .queue) ∙ every-fails (i .queue .count) (λ k. packetSound (i .table .now) (packetOn (i .queue) k)) (c .before .before .before .before .loop .j) (omega arith)
-    (failed (c .before .packet-sound .ensures ∙ ap (packetSound (i .table .now)) (c .before .before .packet-on .ensures)) (c .if1 .taken)))
+    let at-packet = c .before .before in
+    let at-loop = at-packet .before .before in
+    let i = at-loop .before .before .args in
+    let t = i .table .now in
+    let e = c .before .packet-sound .ensures ∙ ap (packetSound t) (at-packet .packet-on .ensures) in
+    let no = every-fails (i .queue .count) (λ k. packetSound t (packetOn (i .queue) k)) (at-loop .loop .j) (omega arith) (failed e (c .if1 .taken)) in
+    sym (legal-every t (i .queue) ∙ no)
 
 add-j : tie.Need-add-j Inv-loop μ-loop
 add-j c = search needs
@@ -38,10 +42,12 @@ loop-less : tie.Need-loop-less Inv-loop μ-loop
 loop-less c = search needs
 
 loop-again : tie.Need-loop-again Inv-loop μ-loop
-loop-again c = let i = c .before .before .before .before .before .before .args in (
-  omega arith,
-  every-more _ _ (c .before .before .before .before .loop .inv .1) (passed (c .before .packet-sound .ensures ∙ ap (packetSound (i .table .now)) (c .before .before .packet-on .ensures)) (c .if1 .left)),
-)
+loop-again c =
+    let at-packet = c .before .before in
+    let at-loop = at-packet .before .before in
+    let t = at-loop .before .before .args .table .now in
+    let e = c .before .packet-sound .ensures ∙ ap (packetSound t) (at-packet .packet-on .ensures) in
+    (omega arith, every-more _ _ (at-loop .loop .inv .1) (passed e (c .if1 .left)))
 
 returns-2 : tie.Need-returns-2 Inv-loop μ-loop
 returns-2 c =

@@ -25,7 +25,9 @@ returns-2 c =
 
 returns-3 : tie.Need-returns-3
 unfolding wordsOfKind
-returns-3 c = third-decides _ (passed (c .before .before .before .is-cell .ensures) (c .before .before .if1 .left)) (passed (c .before .is-legal .ensures) (c .if2 .left))
+returns-3 c =
+    let at-if1 = c .before .before in
+    third-decides _ (passed (at-if1 .before .is-cell .ensures) (at-if1 .if1 .left)) (passed (c .before .is-legal .ensures) (c .if2 .left))
 
 pub read-legal-spec : {M : Type 1} → statement M
 read-legal-spec =

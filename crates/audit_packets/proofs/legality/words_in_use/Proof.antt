@@ -21,7 +21,11 @@ field-sound-requires-3 : tie.Need-field-sound-requires-3
 field-sound-requires-3 c κs = search needs
 
 returns-3 : tie.Need-returns-3
-returns-3 c = c .field-sound3 .ensures ∙ name-third _ _ _ _ (passed (c .before .before .before .before .field-sound .ensures) (c .before .before .before .if1 .left)) (passed (c .before .before .field-sound2 .ensures) (c .before .if2 .left))
+returns-3 c =
+    let at-if2 = c .before in
+    let at-if1 = at-if2 .before .before in
+    let first = passed (at-if1 .before .field-sound .ensures) (at-if1 .if1 .left) in
+    c .field-sound3 .ensures ∙ name-third _ _ _ _ first (passed (at-if2 .before .field-sound2 .ensures) (at-if2 .if2 .left))
 
 pub words-in-use-spec : {M : Type 1} → statement M
 words-in-use-spec =

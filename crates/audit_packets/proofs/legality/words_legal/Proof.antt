@@ -38,7 +38,8 @@ returns-3 : tie.Need-returns-3
 unfolding kindOf wordsOfKind
 returns-3 c =
     let p = c .before .before .args .p in
-    ⊎-elim (λ (e : p .kind ≡ 3). rw (ap kindOf e) (c .write-legal2 .ensures)) (λ (e : p .kind ≡ 6). rw (ap kindOf e) (c .write-legal2 .ensures)) (c .before .match .keys3)
+    ⊎-elim (λ (e : p .kind ≡ 3). rw (ap kindOf e) (c .write-legal2 .ensures))
+    (λ (e : p .kind ≡ 6). rw (ap kindOf e) (c .write-legal2 .ensures)) (c .before .match .keys3)
 
 returns-4 : tie.Need-returns-4
 unfolding kindOf wordsOfKind

@@ -27,7 +27,11 @@ is-cell-requires c κs = search needs
 
 returns-3 : tie.Need-returns-3
 unfolding wordsOfKind
-returns-3 c = c .is-cell .ensures ∙ third-decides _ (passed (c .before .before .before .before .is-legal .ensures) (c .before .before .before .if1 .left)) (passed (c .before .before .is-legal2 .ensures) (c .before .if2 .left))
+returns-3 c =
+    let at-if2 = c .before in
+    let at-if1 = at-if2 .before .before in
+    let first = passed (at-if1 .before .is-legal .ensures) (at-if1 .if1 .left) in
+    c .is-cell .ensures ∙ third-decides _ first (passed (at-if2 .before .is-legal2 .ensures) (at-if2 .if2 .left))
 
 pub write-legal-spec : {M : Type 1} → statement M
 write-legal-spec =

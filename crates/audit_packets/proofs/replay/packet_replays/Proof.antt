@@ -15,8 +15,13 @@ word-replays-requires c κs = search needs
 returns : tie.Need-returns
 unfolding packetReplays
 returns c =
-    let i = c .before .before .before .before .args in
-    sym (first-fails (wordReplays (i .table .now) (i .queue) (i .j) (packetOn (i .queue) (i .j) .b)) (wordReplays (i .table .now) (i .queue) (i .j) (packetOn (i .queue) (i .j) .c)) (failed (c .before .word-replays .ensures ∙ ap (λ (r : Packet). wordReplays (i .table .now) (i .queue) (i .j) (r .a)) (c .before .before .packet-on .ensures)) (c .if1 .taken)))
+    let at-a = c .before in
+    let at-packet = at-a .before in
+    let i = at-packet .before .before .args in
+    let replays = wordReplays (i .table .now) (i .queue) (i .j) in
+    let p = packetOn (i .queue) (i .j) in
+    let e = at-a .word-replays .ensures ∙ ap (λ (r : Packet). replays (r .a)) (at-packet .packet-on .ensures) in
+    sym (first-fails (replays (p .b)) (replays (p .c)) (failed e (c .if1 .taken)))
 
 word-replays-requires-2 : tie.Need-word-replays-requires-2
 word-replays-requires-2 c κs = search needs
@@ -24,8 +29,13 @@ word-replays-requires-2 c κs = search needs
 returns-2 : tie.Need-returns-2
 unfolding packetReplays
 returns-2 c =
-    let i = c .before .before .before .before .before .before .args in
-    sym (second-fails (wordReplays (i .table .now) (i .queue) (i .j) (packetOn (i .queue) (i .j) .a)) (wordReplays (i .table .now) (i .queue) (i .j) (packetOn (i .queue) (i .j) .c)) (failed (c .before .word-replays2 .ensures ∙ ap (λ (r : Packet). wordReplays (i .table .now) (i .queue) (i .j) (r .b)) (c .before .before .before .before .packet-on .ensures)) (c .if2 .taken)))
+    let at-b = c .before in
+    let at-packet = at-b .before .before .before in
+    let i = at-packet .before .before .args in
+    let replays = wordReplays (i .table .now) (i .queue) (i .j) in
+    let p = packetOn (i .queue) (i .j) in
+    let e = at-b .word-replays2 .ensures ∙ ap (λ (r : Packet). replays (r .b)) (at-packet .packet-on .ensures) in
+    sym (second-fails (replays (p .a)) (replays (p .c)) (failed e (c .if2 .taken)))
 
 word-replays-requires-3 : tie.Need-word-replays-requires-3
 word-replays-requires-3 c κs = search needs
@@ -33,9 +43,15 @@ word-replays-requires-3 c κs = search needs
 returns-3 : tie.Need-returns-3
 unfolding packetReplays
 returns-3 c =
-    let i = c .before .before .before .before .before .before .before .args in
-    c .word-replays3 .ensures ∙ ap (λ (r : Packet). wordReplays (i .table .now) (i .queue) (i .j) (r .c)) (c .before .before .before .before .before .packet-on .ensures)
-    ∙ third-decides (wordReplays (i .table .now) (i .queue) (i .j) (packetOn (i .queue) (i .j) .c)) (passed (c .before .before .before .before .word-replays .ensures ∙ ap (λ (r : Packet). wordReplays (i .table .now) (i .queue) (i .j) (r .a)) (c .before .before .before .before .before .packet-on .ensures)) (c .before .before .before .if1 .left)) (passed (c .before .before .word-replays2 .ensures ∙ ap (λ (r : Packet). wordReplays (i .table .now) (i .queue) (i .j) (r .b)) (c .before .before .before .before .before .packet-on .ensures)) (c .before .if2 .left))
+    let at-b = c .before .before in
+    let at-a = at-b .before .before in
+    let at-packet = at-a .before in
+    let i = at-packet .before .before .args in
+    let replays = wordReplays (i .table .now) (i .queue) (i .j) in
+    let read = at-packet .packet-on .ensures in
+    let first = passed (at-a .word-replays .ensures ∙ ap (λ (r : Packet). replays (r .a)) read) (at-b .before .if1 .left) in
+    let second = passed (at-b .word-replays2 .ensures ∙ ap (λ (r : Packet). replays (r .b)) read) (c .before .if2 .left) in
+    c .word-replays3 .ensures ∙ ap (λ (r : Packet). replays (r .c)) read ∙ third-decides (replays (packetOn (i .queue) (i .j) .c)) first second
 
 pub packet-replays-spec : {M : Type 1} → statement M
 packet-replays-spec =

@@ -1,10 +1,9 @@
-use mathlib.Core.Path.{_≡_, sym, ap, _∙_}
-use Prim.Native.Nat.{_+_}
+use mathlib.Core.Path.{sym, ap, _∙_}
 use borrow.Author.Needs.{needs}
 use Rattle.machine.specs.Packets.{uses}
 use Rattle.machine.specs.Queue.{Packet}
 use Rattle.audit_cells.proofs.Tests.{passed, failed}
-use Rattle.audit_packets.specs.Packets.{packetOn, oldest, HeldAfter}
+use Rattle.audit_packets.specs.Packets.{packetOn, oldest}
 use Rattle.audit_packets.proofs.ReplayedCounts.{oldest-next, question-6, stage-unheld, stage-held}
 use Rattle.audit_packets.proofs.replay.stage_sound.Statement.{statement}
 use Rattle.audit_packets.proofs.replay.stage_sound.Tie as tie

@@ -1,11 +1,10 @@
-use mathlib.Core.Path.{_≡_, sym, ap, _∙_}
-use Prim.Native.Nat.{ℕ}
+use mathlib.Core.Path.{sym}
 use native.Mathlib.Omega.{arith}
 use borrow.Author.Needs.{needs}
 use Rattle.machine.specs.Table.{capacity}
-use Rattle.machine.specs.Words.{isCell}
 use Rattle.machine.proofs.Words.{cell-number, cell-place}
 use Rattle.audit_packets.proofs.ReplayedCounts.{no-cell-replays, cell-replays}
+use Rattle.audit_cells.proofs.Cells.{cell-asked}
 use Rattle.audit_cells.proofs.Tests.{passed, failed}
 use Rattle.audit_packets.proofs.replay.word_replays.Statement.{statement}
 use Rattle.audit_packets.proofs.replay.word_replays.Tie as tie
@@ -18,14 +17,18 @@ is-cell-requires c κs = search needs
 
 returns : tie.Need-returns
 returns c =
-    let i = c .before .before .before .before .args in
-    let e : c .before .is-cell .result ≡ isCell (capacity (i .table .now)) (i .x) = c .before .is-cell .ensures ∙ ap (λ (n : ℕ). isCell n (i .x)) (c .before .before .capacity-of .ensures) in
+    let at-cell = c .before in
+    let at-capacity = at-cell .before in
+    let i = at-capacity .before .before .args in
+    let e = cell-asked (i .table .now) (i .x) (at-cell .is-cell .ensures) (at-capacity .capacity-of .ensures) in
     sym (no-cell-replays _ _ _ _ (failed e (c .if1 .taken)))
 
 sub-root-count : tie.Need-sub-root-count
 sub-root-count c =
-    let i = c .before .before .before .before .args in
-    let e : c .before .is-cell .result ≡ isCell (capacity (i .table .now)) (i .x) = c .before .is-cell .ensures ∙ ap (λ (n : ℕ). isCell n (i .x)) (c .before .before .capacity-of .ensures) in
+    let at-cell = c .before in
+    let at-capacity = at-cell .before in
+    let i = at-capacity .before .before .args in
+    let e = cell-asked (i .table .now) (i .x) (at-cell .is-cell .ensures) (at-capacity .capacity-of .ensures) in
     let n = cell-number (capacity (i .table .now)) (i .x) (passed e (c .if1 .left)) in omega arith
 
 cast-root-count : tie.Need-cast-root-count
@@ -33,8 +36,10 @@ cast-root-count c = search needs
 
 root-count-requires : tie.Need-root-count-requires
 root-count-requires c κs =
-    let i = c .before .before .before .before .args in
-    let e : c .before .is-cell .result ≡ isCell (capacity (i .table .now)) (i .x) = c .before .is-cell .ensures ∙ ap (λ (n : ℕ). isCell n (i .x)) (c .before .before .capacity-of .ensures) in
+    let at-cell = c .before in
+    let at-capacity = at-cell .before in
+    let i = at-capacity .before .before .args in
+    let e = cell-asked (i .table .now) (i .x) (at-cell .is-cell .ensures) (at-capacity .capacity-of .ensures) in
     let l = cell-place (capacity (i .table .now)) (i .x) (passed e (c .if1 .left)) in omega arith
 
 stage-sound-requires : tie.Need-stage-sound-requires
@@ -42,9 +47,12 @@ stage-sound-requires c κs = search needs
 
 returns-2 : tie.Need-returns-2
 returns-2 c =
-    let i = c .before .before .before .before .before .before .args in
-    let e : c .before .before .before .is-cell .result ≡ isCell (capacity (i .table .now)) (i .x) = c .before .before .before .is-cell .ensures ∙ ap (λ (n : ℕ). isCell n (i .x)) (c .before .before .before .before .capacity-of .ensures) in
-    cell-replays (i .table .now) (i .queue) (i .j) (i .x) (passed e (c .before .before .if1 .left)) _ _ (c .before .root-count .ensures) (c .stage-sound .ensures)
+    let at-if1 = c .before .before in
+    let at-cell = at-if1 .before in
+    let at-capacity = at-cell .before in
+    let i = at-capacity .before .before .args in
+    let e = cell-asked (i .table .now) (i .x) (at-cell .is-cell .ensures) (at-capacity .capacity-of .ensures) in
+    cell-replays (i .table .now) (i .queue) (i .j) (i .x) (passed e (at-if1 .if1 .left)) _ _ (c .before .root-count .ensures) (c .stage-sound .ensures)
 
 pub word-replays-spec : {M : Type 1} → statement M
 word-replays-spec =

@@ -15,7 +15,11 @@ returns-3 : tie.Need-returns-3
 returns-3 c = sym (refuted _ (λ h. c .if3 .taken (zero-facts _ h .2)))
 
 returns-4 : tie.Need-returns-4
-returns-4 c = zero-last (packetOf (c .before .before .before .before .before .before .before .args .p)) (c .before .before .before .before .before .if1 .left) (c .before .before .before .if2 .left) (c .before .if3 .left)
+returns-4 c =
+    let at-if3 = c .before in
+    let at-if2 = at-if3 .before .before in
+    let at-if1 = at-if2 .before .before in
+    zero-last (packetOf (at-if1 .before .before .args .p)) (at-if1 .if1 .left) (at-if2 .if2 .left) (at-if3 .if3 .left)
 
 pub is-zero-spec : {M : Type 1} → statement M
 is-zero-spec = tie.close (tie.spec returns returns-2 returns-3 returns-4)

@@ -37,7 +37,9 @@ loop-less : tie.Need-loop-less Inv-loop μ-loop
 loop-less c = search needs
 
 loop-again : tie.Need-loop-again Inv-loop μ-loop
-loop-again c = (c .before .before .before .loop .inv .0, omega arith, every-more _ _ (c .before .before .before .loop .inv .2) (passed (c .before .rest-zero .ensures) (c .if1 .left)))
+loop-again c =
+    let inv = c .before .before .before .loop .inv in
+    (inv .0, omega arith, every-more _ _ (inv .2) (passed (c .before .rest-zero .ensures) (c .if1 .left)))
 
 returns-2 : tie.Need-returns-2 Inv-loop μ-loop
 unfolding otherSlotsZero restZero
