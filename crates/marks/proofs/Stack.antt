@@ -76,7 +76,14 @@ threaded-pushed c w st h = push-cases (Threaded c) c w st (λ _. h) push
     push u = record {
       enough = simp length-set (h .enough);
       pending = pred w ∷ h .pending;
-      chained = (u .number, u .place, rw same (omega arith), new, rw same (rw back (chained-set c (st .words) (st .top) (h .pending) (pred w) (st .top + 2) (h .chained) new)));
+      chained = (
+        u .number,
+        u .place,
+        rw same (omega arith),
+        new,
+        rw same (rw back (chained-set c (st .words) (st .top) (h .pending) (pred w)
+            (st .top + 2) (h .chained) new)),
+      );
       all = all;
     }
       where
@@ -94,7 +101,9 @@ threaded-pushed c w st h = push-cases (Threaded c) c w st (λ _. h) push
         all : (i : ℕ) → i < c → 2 ≤ getD (set (st .words) (pred w) (st .top + 2)) i 0 → contains (pred w ∷ h .pending) i ≡ true
         all i l g =
             rw contains-cons
-            (⊎-elim (λ e. or-left (contains (h .pending) i) e) (λ e. or-right (eqb (pred w) i) (h .all i l (rw (getD-set-other (st .words) (pred w) i (st .top + 2) 0 (λ x. eqb-false (pred w) i e (sym x))) at g))) (tested (eqb (pred w) i)))
+            (⊎-elim (λ e. or-left (contains (h .pending) i) e)
+            (λ e. or-right (eqb (pred w) i) (h .all i l (rw (getD-set-other (st .words) (pred w) i (st .top + 2) 0 (λ x. eqb-false (pred w) i e (sym x))) at g)))
+            (tested (eqb (pred w) i)))
 
 -- the first pending cell taken off
 abbrev pub popped : Stack → Stack
@@ -194,7 +203,13 @@ done-before c w st h i l = push-cases (λ r. getD (r .words) i 0 ≡ 1 → getD 
       where
         here : pred w ≡ i → ⊥
         here x =
-            omega (arith, e, getD-set-same (st .words) i (st .top + 2) 0 (word-within c i (length (st .words)) l (h .enough)), ap (λ (j : ℕ). getD (set (st .words) j (st .top + 2)) i 0) x)
+            omega (
+              arith,
+              e,
+              getD-set-same (st .words) i (st .top + 2) 0 (word-within c i (length (st .words)) l (h .enough)),
+              ap (λ (j : ℕ). getD
+                  (set (st .words) j (st .top + 2)) i 0) x,
+            )
 
 -- words past the scratch of c cells stand
 pub past-pushed : (c w : ℕ) (st : Stack) → drop (scratchWords c) (pushed c w st .words) ≡ drop (scratchWords c) (st .words)
