@@ -67,7 +67,7 @@ module _ (c : ℕ) (start : ℕ → Bool) (t : List ℕ) where
       where
         here : p ≡ i → met (popped st) i ≡ met st i
         here e =
-            rw (← e, getD-set-same (st .words) p 1 0 (word-within c p (length (st .words)) (f .place) (h .threaded .enough)))
+            rw (← e, getD-set-same (st .words) p 1 0 (word-within c p (length (st .words)) (f .index) (h .threaded .enough)))
             (sym (lt-ltb 0 (getD (st .words) p 0) (omega (arith, f .linked))))
 
     following-popped : Following c start t p (popped st)
@@ -80,7 +80,7 @@ module _ (c : ℕ) (start : ℕ → Bool) (t : List ℕ) where
 
     got : Got p
     unfolding isMarked
-    got = h .earned p (f .place) (lt-ltb 0 (getD (st .words) p 0) (omega (arith, f .linked)))
+    got = h .earned p (f .index) (lt-ltb 0 (getD (st .words) p 0) (omega (arith, f .linked)))
 
     got-left : isCell c (wordAt t p left) ≡ true → Got (pred (wordAt t p left))
     got-left e =
@@ -137,7 +137,7 @@ module _ (c : ℕ) (start : ℕ → Bool) (t : List ℕ) where
     unfolding visited
     past-visited =
         past-pushed c (wordAt t p right) one ∙ past-pushed c (wordAt t p left) (popped st)
-        ∙ drop-set-lt (scratchWords c) (st .words) p 1 (cell-word c p (f .place))
+        ∙ drop-set-lt (scratchWords c) (st .words) p 1 (cell-word c p (f .index))
 
   -- nothing pending: what is marked is what is reached
   pub followed-all : (st : Stack) → Following c start t c st → st .top ≡ 0 → (i : ℕ) → i < c → met st i ≡ reachedBy c start (pointsTo t) i
