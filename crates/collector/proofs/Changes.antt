@@ -67,23 +67,23 @@ pub moves-lowered : (t : List ℕ) (k : Counter) (w n i v : ℕ) → isCell (cap
     → (t′ : List ℕ) → t′ ≡ putWord t i (counterWord k) v → Moves t k w minus n t′
 moves-lowered t k w n i v h e f t′ g = moves t k w minus n t′ (g ∙ same)
   where
-    place : i ≡ pred w
-    place = omega arith
+    index : i ≡ pred w
+    index = omega arith
 
     same : putWord t i (counterWord k) v ≡ moveFitting t k w minus n
-    same = unfold moveFitting moveCount in rw (h, f, place)
+    same = unfold moveFitting moveCount in rw (h, f, index)
 
 pub moves-raised : (t : List ℕ) (k : Counter) (w n i v : ℕ) → isCell (capacity t) w ≡ true → i ≡ w - 1 → Raised (wordAt t i (counterWord k)) n v
     → (t′ : List ℕ) → t′ ≡ putWord t i (counterWord k) v → Moves t k w plus n t′
 moves-raised t k w n i v h e f t′ g =
     moves t k w plus n t′
-    (g ∙ ap (λ (j : ℕ). putWord t j (counterWord k) v) place ∙ ⊎-elim large small (tested (leb 65536 (wordAt t (pred w) (counterWord k) + n))))
+    (g ∙ ap (λ (j : ℕ). putWord t j (counterWord k) v) index ∙ ⊎-elim large small (tested (leb 65536 (wordAt t (pred w) (counterWord k) + n))))
   where
-    place : i ≡ pred w
-    place = omega arith
+    index : i ≡ pred w
+    index = omega arith
 
     r : Raised (wordAt t (pred w) (counterWord k)) n v
-    r = rw place at f
+    r = rw index at f
 
     large : leb 65536 (wordAt t (pred w) (counterWord k) + n) ≡ true → putWord t (pred w) (counterWord k) v ≡ moveFitting t k w plus n
     large b = unfold moveFitting in rw (b, r .stays (borrow.Author.Tests.leb-true 65536 _ b)) (put-itself t (pred w) (counterWord k))

@@ -71,7 +71,8 @@ word-kept t (h ∷ hs) j m l a b =
 root-move : (t : List ℕ) (k : Counter) (h : Change) (j : ℕ) → k ≡ h .counter → tableLength (capacity t) ≤ length t → j < capacity t → h .word ≢ suc j
     → wordAt (moveCount t k (h .word) (h .direction) (h .amount)) j rootCount ≡ wordAt t j rootCount
 root-move t root h j e f l d =
-    count-move t root (h .word) (h .direction) (h .amount) f j l ∙ rw (matching-other (h .word) (suc j) (h .amount) d) (shifted-none (h .direction) (wordAt t j rootCount))
+    count-move t root (h .word) (h .direction) (h .amount) f j l
+    ∙ rw (matching-other (h .word) (suc j) (h .amount) d) (shifted-none (h .direction) (wordAt t j rootCount))
 root-move t cell h j e f l d = word-move t cell (h .word) (h .direction) (h .amount) j rootCount (omega arith) (omega arith)
 
 root-kept : (t : List ℕ) (hs : List Change) (j : ℕ) → tableLength (capacity t) ≤ length t → j < capacity t → Elsewhere j hs
@@ -130,7 +131,8 @@ module _ (t : List ℕ) (p : Packet) (ps : List Packet) (f : tableLength (capaci
         none : (i : ℕ) → i < capacity t′ → inUse t′ i && not (reached t′ ps i) ≡ false
         none i l =
             ⊎-elim free busy
-            (or-true (isFree t i) (reached t (p ∷ ps) i) (every-at (capacity t) (λ j. isFree t j || reached t (p ∷ ps) j) live i (rw (capacity-kept t (changes p)) at l)))
+            (or-true (isFree t i) (reached t (p ∷ ps) i)
+            (every-at (capacity t) (λ j. isFree t j || reached t (p ∷ ps) j) live i (rw (capacity-kept t (changes p)) at l)))
           where
             free : isFree t i ≡ true → inUse t′ i && not (reached t′ ps i) ≡ false
             free e = rw (used i, free-not-in-use t i e)

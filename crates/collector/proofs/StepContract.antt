@@ -64,7 +64,8 @@ fitting-some t (h ∷ hs) =
     (go (tooLarge (h .direction) _ (h .amount)) (fitting-some t hs) (fitting-some (moveCount t (h .counter) (h .word) (h .direction) (h .amount)) hs))
   where
     go : (b : Bool) → (gs : List Change) × (applyFitting t hs ≡ applyChanges t gs)
-        → (gs : List Change) × (applyFitting (moveCount t (h .counter) (h .word) (h .direction) (h .amount)) hs ≡ applyChanges (moveCount t (h .counter) (h .word) (h .direction) (h .amount)) gs)
+        → (gs : List Change) × (applyFitting (moveCount t (h .counter) (h .word) (h .direction) (h .amount)) hs
+        ≡ applyChanges (moveCount t (h .counter) (h .word) (h .direction) (h .amount)) gs)
         → (gs : List Change) × (applyFitting (cond b t (moveCount t (h .counter) (h .word) (h .direction) (h .amount))) hs ≡ applyChanges t gs)
     go true g f = g
     go false g f = (h ∷ f .0, f .1)
@@ -221,8 +222,8 @@ module _ (t : List ℕ) (q : Queue) (s : List ℕ) where
       f = framed-collected t q s h some
 
 -- the packet read and applied, and the queue behind it
-module _ (t : List ℕ) (q : Queue) (s : List ℕ) (h : Lent t q s) (k a b d : ℕ) (e : packet k a b d ≡ oldest q) (t₁ : List ℕ) (f : t₁ ≡ applyFitting t (changesOf (kindOf k) a b))
-    (rest : Queue) (g : rest ≡ taken q) where
+module _ (t : List ℕ) (q : Queue) (s : List ℕ) (h : Lent t q s) (k a b d : ℕ) (e : packet k a b d ≡ oldest q) (t₁ : List ℕ)
+    (f : t₁ ≡ applyFitting t (changesOf (kindOf k) a b)) (rest : Queue) (g : rest ≡ taken q) where
   applied-oldest : t₁ ≡ applyFitting t (changes (oldest q))
   applied-oldest = f ∙ rw (← e) (unfold changes in refl)
 

@@ -84,7 +84,8 @@ module _ (t s : List ℕ) (h : TableShape t) (n : ℕ) (l : n < capacity t) wher
   pub pass-number : (u u′ : List ℕ) (end w r m : ℕ) → u ≡ passedTo t s n → Passes u s n end w u′ r → m ≡ length (select n (isDead t s))
       → m + r ≡ length (select (n + 1) (isDead t s))
   pass-number u u′ end w r m e p k =
-      let d : r ≡ cond (isDead t s n) 1 0 = p .number ∙ ap (λ (b : Bool). cond b 1 0) (ap (λ (v : List ℕ). isDead v s n) e ∙ still-dead t s (capacity t) (good t h) n l) in
+      let d : r ≡ cond (isDead t s n) 1 0 = p .number ∙ ap (λ (b : Bool). cond b 1 0) (ap (λ (v : List ℕ). isDead v s n) e ∙ still-dead t s
+      (capacity t) (good t h) n l) in
       rw (k, d, add-one n) (sym (length-select n (isDead t s)))
 
 pub sweeps-all : (t s : List ℕ) → TableShape t → (n : ℕ) → n ≡ capacity t → (u : List ℕ) (m : ℕ) → u ≡ passedTo t s n

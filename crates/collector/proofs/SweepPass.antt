@@ -251,7 +251,8 @@ module _ (t s : List ℕ) where
       passed-more = rw (still-dead, left-known) (go (isDead t s n) refl)
         where
           go : (b : Bool) → isDead t s n ≡ b
-              → cond b (join (moveCount (moveCount (passedTo n) cell (wordAt t n left) minus 1) cell (wordAt (passedTo n) n right) minus 1) n) (passedTo n) ≡ passedTo (suc n)
+              → cond b (join (moveCount (moveCount (passedTo n) cell (wordAt t n left) minus 1) cell (wordAt (passedTo n) n right) minus 1) n) (passedTo n)
+              ≡ passedTo (suc n)
           go true e = unfold passedTo select in rw e (sym (unfold lower in freeAll-snoc lefts t (select n (isDead t s)) n))
           go false e = unfold passedTo select in rw (e, append-nil)
 

@@ -42,7 +42,8 @@ module _ (c : ℕ) (start : ℕ → Bool) (t : List ℕ) where
     following-pushed : Following c start t but (pushed c w st)
     following-pushed = record {
       threaded = threaded-pushed c w st (h .threaded);
-      earned = λ i l m. ⊎-elim (λ e. h .earned i l e) (λ e. here i l (eqb-true w (suc i) e)) (or-true (met st i) (eqb w (suc i)) (sym (met-pushed c w st (h .threaded .enough) i l) ∙ m));
+      earned = λ i l m. ⊎-elim (λ e. h .earned i l e) (λ e. here i l (eqb-true w (suc i) e))
+          (or-true (met st i) (eqb w (suc i)) (sym (met-pushed c w st (h .threaded .enough) i l) ∙ m));
       followed = λ i j l d e k p. stays j k (h .followed i j l d (done-before c w st (h .threaded) i l e) k p);
       started = λ i l e. stays i l (h .started i l e);
     }
@@ -66,7 +67,7 @@ module _ (c : ℕ) (start : ℕ → Bool) (t : List ℕ) where
       where
         here : p ≡ i → met (popped st) i ≡ met st i
         here e =
-            rw (← e, getD-set-same (st .words) p 1 0 (word-within c p (length (st .words)) (f .place) (h .threaded .enough)))
+            rw (← e, getD-set-same (st .words) p 1 0 (word-within c p (length (st .words)) (f .index) (h .threaded .enough)))
             (sym (lt-ltb 0 (getD (st .words) p 0) (omega (arith, f .linked))))
 
     following-popped : Following c start t p (popped st)
@@ -79,17 +80,19 @@ module _ (c : ℕ) (start : ℕ → Bool) (t : List ℕ) where
 
     got : Got p
     unfolding isMarked
-    got = h .earned p (f .place) (lt-ltb 0 (getD (st .words) p 0) (omega (arith, f .linked)))
+    got = h .earned p (f .index) (lt-ltb 0 (getD (st .words) p 0) (omega (arith, f .linked)))
 
     got-left : isCell c (wordAt t p left) ≡ true → Got (pred (wordAt t p left))
     got-left e =
         onward got (cell-place c (wordAt t p left) e)
-        (unfold pointsTo in or-left (eqb (wordAt t p right) (suc (pred (wordAt t p left)))) (eq-eqb (wordAt t p left) (suc (pred (wordAt t p left))) (cell-number c (wordAt t p left) e)))
+        (unfold pointsTo in or-left (eqb (wordAt t p right) (suc (pred (wordAt t p left))))
+        (eq-eqb (wordAt t p left) (suc (pred (wordAt t p left))) (cell-number c (wordAt t p left) e)))
 
     got-right : isCell c (wordAt t p right) ≡ true → Got (pred (wordAt t p right))
     got-right e =
         onward got (cell-place c (wordAt t p right) e)
-        (unfold pointsTo in or-right (eqb (wordAt t p left) (suc (pred (wordAt t p right)))) (eq-eqb (wordAt t p right) (suc (pred (wordAt t p right))) (cell-number c (wordAt t p right) e)))
+        (unfold pointsTo in or-right (eqb (wordAt t p left) (suc (pred (wordAt t p right))))
+        (eq-eqb (wordAt t p right) (suc (pred (wordAt t p right))) (cell-number c (wordAt t p right) e)))
 
     abbrev one : Stack
     one = pushed c (wordAt t p left) (popped st)
@@ -115,7 +118,8 @@ module _ (c : ℕ) (start : ℕ → Bool) (t : List ℕ) where
         fields : {i : ℕ} → i ≡ p → (j : ℕ) → j < c → pointsTo t i j ≡ true → met two j ≡ true
         fields {i} e j k q =
             let o : eqb (wordAt t p left) (suc j) || eqb (wordAt t p right) (suc j) ≡ true = unfold pointsTo in (rw e at q) in
-            ⊎-elim (λ x. stays p (wordAt t p right) one following-one got-right j k (met-word p (wordAt t p left) (popped st) following-popped got-left j k (eqb-true (wordAt t p left) (suc j) x)))
+            ⊎-elim (λ x. stays p (wordAt t p right) one following-one got-right j k
+            (met-word p (wordAt t p left) (popped st) following-popped got-left j k (eqb-true (wordAt t p left) (suc j) x)))
             (λ x. met-word p (wordAt t p right) one following-one got-right j k (eqb-true (wordAt t p right) (suc j) x))
             (or-true (eqb (wordAt t p left) (suc j)) (eqb (wordAt t p right) (suc j)) o)
 
@@ -133,7 +137,7 @@ module _ (c : ℕ) (start : ℕ → Bool) (t : List ℕ) where
     unfolding visited
     past-visited =
         past-pushed c (wordAt t p right) one ∙ past-pushed c (wordAt t p left) (popped st)
-        ∙ drop-set-lt (scratchWords c) (st .words) p 1 (cell-word c p (f .place))
+        ∙ drop-set-lt (scratchWords c) (st .words) p 1 (cell-word c p (f .index))
 
   -- nothing pending: what is marked is what is reached
   pub followed-all : (st : Stack) → Following c start t c st → st .top ≡ 0 → (i : ℕ) → i < c → met st i ≡ reachedBy c start (pointsTo t) i

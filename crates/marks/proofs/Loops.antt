@@ -50,7 +50,11 @@ rooted-more t c i st u v p q = record { same = q .same ∙ ap (pushedIfRooted t 
 pub three-pushed : (c x y z : ℕ) (ws : List ℕ) → x ∷ y ∷ z ∷ [] ≡ ws → (st u v w : Stack)
     → Pushes c u (pushed c x st) → Pushes c v (pushed c y u) → Pushes c w (pushed c z v) → Pushes c w (pushedAll c ws st)
 three-pushed c x y z ws e st u v w p q r =
-    record { same = r .same ∙ ap (pushed c z) (q .same) ∙ ap (λ (a : Stack). pushed c z (pushed c y a)) (p .same) ∙ (unfold pushedAll in rw (← e)); below = r .below }
+    record {
+      same = r .same ∙ ap (pushed c z) (q .same) ∙ ap (λ (a : Stack). pushed c z (pushed c y a)) (p .same) ∙ (unfold pushedAll in rw
+          (← e));
+      below = r .below;
+    }
 
 pushedNamed-snoc : (c : ℕ) (ps : List Packet) (p : Packet) (st : Stack) → pushedNamed c (ps ++ (p ∷ [])) st ≡ pushedAll c (threeNames p) (pushedNamed c ps st)
 unfolding pushedNamed

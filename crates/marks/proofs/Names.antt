@@ -45,7 +45,8 @@ three-first (suc (suc (suc (suc (suc (suc k)))))) a b c l h = absurd (omega arit
 pub three-none : (k a b c : ℕ) → (1 ≤ k → k ≤ 6 → ⊥) → 0 ∷ 0 ∷ 0 ∷ [] ≡ threeOf (kindOf k) a b c
 unfolding threeOf
 three-none k a b c f =
-    rw (kind-unknown k (λ e. f (omega arith) (omega arith)) (λ e. f (omega arith) (omega arith)) (λ e. f (omega arith) (omega arith)) (λ e. f (omega arith) (omega arith)) (λ e. f (omega arith) (omega arith)) (λ e. f (omega arith) (omega arith)))
+    rw (kind-unknown k (λ e. f (omega arith) (omega arith)) (λ e. f (omega arith) (omega arith)) (λ e. f (omega arith) (omega arith))
+    (λ e. f (omega arith) (omega arith)) (λ e. f (omega arith) (omega arith)) (λ e. f (omega arith) (omega arith)))
 
 -- nil pads what is named
 none-named : (w : ℕ) → 1 ≤ w → eqb 0 w ≡ false

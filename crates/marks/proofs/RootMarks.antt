@@ -110,7 +110,8 @@ unfolding pushedNamed isNamed
 named-pushed c [] st h = pushed-nothing c st h
 named-pushed c (p ∷ ps) st h =
     let u = pushedAll c (threeNames p) st in
-    let q = pushed-as c (λ i. contains (threeNames p) (suc i)) (λ i. contains (names p) (suc i)) st u (λ i l. contains-three p (suc i) (omega arith)) (all-pushed c (threeNames p) st h) in
+    let q = pushed-as c (λ i. contains (threeNames p) (suc i)) (λ i. contains (names p) (suc i)) st u (λ i l. contains-three p (suc i) (omega arith))
+    (all-pushed c (threeNames p) st h) in
     pushed-then c (λ i. contains (names p) (suc i)) (λ i. isNamed ps (suc i)) st u (pushedNamed c ps u) q (named-pushed c ps u (q .fresh))
 
 -- the cells whose root count is above 0

@@ -23,7 +23,7 @@ use Rattle.marks.proofs.Scratch.{cell-word, word-within}
 -- a word's cell is pushed, or nothing happens
 pub record Unmet (c w : ℕ) (s : List ℕ) : Type 0 where
   pub cell : isCell c w ≡ true
-  pub place : pred w < c
+  pub index : pred w < c
   pub number : w ≡ suc (pred w)
   pub zero : getD s (pred w) 0 ≡ 0
 
@@ -33,7 +33,7 @@ unmet-is c w s h =
     let i = and-first (isCell c w) (eqb (getD s (pred w) 0) 0) h in
     record {
       cell = i;
-      place = cell-place c w i;
+      index = cell-place c w i;
       number = cell-number c w i;
       zero = eqb-true (getD s (pred w) 0) 0 (and-second (isCell c w) (eqb (getD s (pred w) 0) 0) h);
     }
@@ -76,12 +76,19 @@ threaded-pushed c w st h = push-cases (Threaded c) c w st (λ _. h) push
     push u = record {
       enough = simp length-set (h .enough);
       pending = pred w ∷ h .pending;
-      chained = (u .number, u .place, rw same (omega arith), new, rw same (rw back (chained-set c (st .words) (st .top) (h .pending) (pred w) (st .top + 2) (h .chained) new)));
+      chained = (
+        u .number,
+        u .index,
+        rw same (omega arith),
+        new,
+        rw same (rw back (chained-set c (st .words) (st .top) (h .pending) (pred w)
+            (st .top + 2) (h .chained) new)),
+      );
       all = all;
     }
       where
         same : getD (set (st .words) (pred w) (st .top + 2)) (pred w) 0 ≡ st .top + 2
-        same = getD-set-same (st .words) (pred w) (st .top + 2) 0 (word-within c (pred w) (length (st .words)) (u .place) (h .enough))
+        same = getD-set-same (st .words) (pred w) (st .top + 2) 0 (word-within c (pred w) (length (st .words)) (u .index) (h .enough))
 
         back : st .top + 2 - 2 ≡ st .top
         back = omega arith
@@ -94,7 +101,9 @@ threaded-pushed c w st h = push-cases (Threaded c) c w st (λ _. h) push
         all : (i : ℕ) → i < c → 2 ≤ getD (set (st .words) (pred w) (st .top + 2)) i 0 → contains (pred w ∷ h .pending) i ≡ true
         all i l g =
             rw contains-cons
-            (⊎-elim (λ e. or-left (contains (h .pending) i) e) (λ e. or-right (eqb (pred w) i) (h .all i l (rw (getD-set-other (st .words) (pred w) i (st .top + 2) 0 (λ x. eqb-false (pred w) i e (sym x))) at g))) (tested (eqb (pred w) i)))
+            (⊎-elim (λ e. or-left (contains (h .pending) i) e)
+            (λ e. or-right (eqb (pred w) i) (h .all i l (rw (getD-set-other (st .words) (pred w) i (st .top + 2) 0 (λ x. eqb-false (pred w) i e (sym x))) at g)))
+            (tested (eqb (pred w) i)))
 
 -- the first pending cell taken off
 abbrev pub popped : Stack → Stack
@@ -102,7 +111,7 @@ popped st = stack (set (st .words) (pred (st .top)) 1) (getD (st .words) (pred (
 
 -- what the first pending cell has
 pub record First (c : ℕ) (st : Stack) : Type 0 where
-  pub place : pred (st .top) < c
+  pub index : pred (st .top) < c
   pub linked : 2 ≤ getD (st .words) (pred (st .top)) 0
   pub onward : getD (st .words) (pred (st .top)) 0 ≤ c + 2
   pub rest : Threaded c (popped st)
@@ -113,7 +122,7 @@ first c st h l = go (h .pending) (h .chained) (h .all)
     go : (is : List ℕ) → Chained c (st .words) (st .top) is → ((i : ℕ) → i < c → 2 ≤ getD (st .words) i 0 → contains is i ≡ true) → First c st
     go [] ch all = absurd (omega arith)
     go (i ∷ is) ch all = record {
-      place = rw at-top (ch .1);
+      index = rw at-top (ch .1);
       linked = rw at-top (ch .2);
       onward = rw at-top (omega (arith, chained-below c (st .words) (getD (st .words) i 0 - 2) is (ch .4)));
       rest = rw at-top (record {
@@ -172,14 +181,14 @@ work-pushed c w st h = push-cases (λ r. work c (r .words) ≤ work c (st .words
   where
     push : Unmet c w (st .words) → work c (set (st .words) (pred w) (st .top + 2)) ≤ work c (st .words)
     push u =
-        let e = work-set c (st .words) (pred w) (st .top + 2) (u .place) (h .enough) in
+        let e = work-set c (st .words) (pred w) (st .top + 2) (u .index) (h .enough) in
         let a : weight (st .top + 2) ≡ 1 = linked-weight (st .top + 2) (omega arith) in
         let b : weight (getD (st .words) (pred w) 0) ≡ 2 = ap weight (u .zero) in
         omega arith
 
 pub work-popped : (c : ℕ) (st : Stack) → Threaded c st → First c st → work c (popped st .words) < work c (st .words)
 work-popped c st h f =
-    let e = work-set c (st .words) (pred (st .top)) 1 (f .place) (h .enough) in
+    let e = work-set c (st .words) (pred (st .top)) 1 (f .index) (h .enough) in
     let a : weight (getD (st .words) (pred (st .top)) 0) ≡ 1 = linked-weight (getD (st .words) (pred (st .top)) 0) (f .linked) in
     omega arith
 
@@ -194,13 +203,19 @@ done-before c w st h i l = push-cases (λ r. getD (r .words) i 0 ≡ 1 → getD 
       where
         here : pred w ≡ i → ⊥
         here x =
-            omega (arith, e, getD-set-same (st .words) i (st .top + 2) 0 (word-within c i (length (st .words)) l (h .enough)), ap (λ (j : ℕ). getD (set (st .words) j (st .top + 2)) i 0) x)
+            omega (
+              arith,
+              e,
+              getD-set-same (st .words) i (st .top + 2) 0 (word-within c i (length (st .words)) l (h .enough)),
+              ap (λ (j : ℕ). getD
+                  (set (st .words) j (st .top + 2)) i 0) x,
+            )
 
 -- words past the scratch of c cells stand
 pub past-pushed : (c w : ℕ) (st : Stack) → drop (scratchWords c) (pushed c w st .words) ≡ drop (scratchWords c) (st .words)
 past-pushed c w st =
     push-cases (λ r. drop (scratchWords c) (r .words) ≡ drop (scratchWords c) (st .words)) c w st (λ _. refl)
-    (λ u. drop-set-lt (scratchWords c) (st .words) (pred w) (st .top + 2) (cell-word c (pred w) (u .place)))
+    (λ u. drop-set-lt (scratchWords c) (st .words) (pred w) (st .top + 2) (cell-word c (pred w) (u .index)))
 
 pub visitable : (c : ℕ) (t : List ℕ) (st : Stack) → Threaded c st → First c st → 1 ≤ st .top → tableLength c ≤ length t → c ≤ mostCells → Visitable c t st
 visitable c t st h f l r m = record {
@@ -208,7 +223,7 @@ visitable c t st h f l r m = record {
   enough = h .enough;
   most = m;
   some = l;
-  below = omega (arith, f .place);
+  below = omega (arith, f .index);
   linked = rw sub-one (f .linked);
   onward = rw sub-one (f .onward);
 }

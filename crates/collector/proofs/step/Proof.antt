@@ -67,7 +67,8 @@ returns-3 c =
     let at-lent = at-asked .before .before in
     let s = at-lent .before .before .before .before .before in
     refuses (s .args .table .now) (s .args .queue) (s .args .scratch .now) (at-asked .asked .given .0 .0)
-    (says-no (s .args .table .now) (s .args .queue) (s .args .scratch .now) _ (at-asked .asked .given .0 .0) (at-lent .lent .ensures) (at-asked .asked .given .1)) _ refl refl
+    (says-no (s .args .table .now) (s .args .queue) (s .args .scratch .now) _ (at-asked .asked .given .0 .0) (at-lent .lent .ensures)
+    (at-asked .asked .given .1)) _ refl refl
 
 pub step-spec : {M : Type 1} → statement M
 step-spec =

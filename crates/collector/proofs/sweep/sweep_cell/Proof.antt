@@ -38,7 +38,8 @@ returns-2 c =
     let start = at-is-marked .before .before .before in
     let i = start .args in
     passes-dead _ _ _ _ _
-    (unmarked-dead (i .table .now) (i .scratch .now) (i .index) (sym (at-is-marked .is-marked .ensures) ∙ at-if1 .if1 .left) ∙ sym (at-in-use .in-use .ensures) ∙ at-if2 .if2 .taken)
+    (unmarked-dead (i .table .now) (i .scratch .now) (i .index) (sym (at-is-marked .is-marked .ensures) ∙ at-if1 .if1 .left)
+    ∙ sym (at-in-use .in-use .ensures) ∙ at-if2 .if2 .taken)
     _ (c .before .before .free .ensures ∙ ap (freed (i .table .now) (i .index)) (at-left-before .left-before .ensures))
 
 same-length-2 : tie.Need-same-length-2
@@ -51,7 +52,8 @@ returns-3 c =
     let start = at-is-marked .before .before .before in
     let i = start .args in
     passes-live _ _ _ _ _
-    (unmarked-dead (i .table .now) (i .scratch .now) (i .index) (sym (at-is-marked .is-marked .ensures) ∙ at-if1 .if1 .left) ∙ sym (c .before .in-use .ensures) ∙ c .if2 .left)
+    (unmarked-dead (i .table .now) (i .scratch .now) (i .index) (sym (at-is-marked .is-marked .ensures) ∙ at-if1 .if1 .left)
+    ∙ sym (c .before .in-use .ensures) ∙ c .if2 .left)
 
 pub sweep-cell-spec : {M : Type 1} → statement M
 sweep-cell-spec =

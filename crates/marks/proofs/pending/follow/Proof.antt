@@ -13,7 +13,9 @@ use Rattle.marks.proofs.pending.follow.Tie as tie
 
 abbrev Inv-loop : tie.InvT-loop
 Inv-loop table scratch₀ c first top₀ scratch top =
-    Following c (isMarked scratch₀) table c (stack scratch top) × (drop (scratchWords c) scratch ≡ drop (scratchWords c) scratch₀) × (length scratch ≡ length scratch₀)
+    Following c (isMarked scratch₀) table c (stack scratch top)
+    × (drop (scratchWords c) scratch ≡ drop (scratchWords c) scratch₀)
+    × (length scratch ≡ length scratch₀)
 
 abbrev μ-loop : tie.MeasureT-loop
 μ-loop table scratch₀ c first top₀ scratch top = work c scratch

@@ -21,8 +21,8 @@ mul-if2 c = search needs
 
 slice-read-if2 : tie.Need-slice-read-if2
 slice-read-if2 c =
-    let b = bounds _ _ (sym (c .before .before .is-cell .ensures) ∙ c .before .if1 .taken) in word-within _ _ _ (omega arith)
-    (c .before .before .before .before .pre .0)
+    let b = bounds _ _ (sym (c .before .before .is-cell .ensures) ∙ c .before .if1 .taken) in
+    word-within _ _ _ (omega arith) (c .before .before .before .before .pre .0)
 
 add-scratch : tie.Need-add-scratch
 add-scratch c = search needs
@@ -32,8 +32,8 @@ mul-scratch c = search needs
 
 slice-write-scratch : tie.Need-slice-write-scratch
 slice-write-scratch c =
-    let b = bounds _ _ (sym (c .before .before .before .is-cell .ensures) ∙ c .before .before .if1 .taken) in word-within _ _ _ (omega arith)
-    (c .before .before .before .before .before .pre .0)
+    let b = bounds _ _ (sym (c .before .before .before .is-cell .ensures) ∙ c .before .before .if1 .taken) in
+    word-within _ _ _ (omega arith) (c .before .before .before .before .before .pre .0)
 
 same-length : tie.Need-same-length
 same-length c = search needs
