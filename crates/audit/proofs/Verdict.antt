@@ -2,29 +2,26 @@
 use mathlib.Core.Path.{_≡_, refl, sym, ap, _∙_}
 use mathlib.Core.Bool.{true, false, _&&_}
 use mathlib.Core.List.{List}
-use Prim.Native.Nat.{ℕ, zero, suc, _<_}
+use Prim.Native.Nat.{ℕ, zero, suc}
 use native.Mathlib.Omega.{arith}
 use lib.ListN.{drop}
-use Rattle.machine.specs.declared.Asked
-use Rattle.machine.specs.declared.Asked.{Asked}
 use Rattle.machine.specs.declared.AuditAnswer
 use Rattle.machine.specs.declared.AuditAnswer.{AuditAnswer}
 use Rattle.machine.specs.declared.Queue.{Queue}
 use Rattle.machine.specs.declared.Refusal.{Refusal}
-use Rattle.machine.specs.declared.Refusal.the-variants.{StoreOutOfRange, ScratchTooShort, NumberOutOfRange, IllegalWord, NotACell, NotHeld, QueueFull, NoFreeCell, HeldCountTooHigh, TooManyPointers}
 use Rattle.machine.specs.declared.Rule
 use Rattle.machine.specs.declared.Rule.{Rule}
-use Rattle.machine.specs.Answers.{refusalNumber, askedNumber, ruleNumber}
+use Rattle.machine.specs.Answers.{refusalNumber, ruleNumber}
 use Rattle.machine.specs.Audit.{cellsSound, chainSound, otherSlotsZero, packetsLegal, packetsSound, pointersSound, allReached, rules, auditReply, audited}
 use Rattle.machine.specs.Calls.{store, step, audit, refused, broken}
-use Rattle.machine.specs.Facts.{Lent}
 use Rattle.machine.specs.Machine.{accepted, machine}
 use Rattle.machine.specs.Questions.{firstNo, early, late, questions}
 use Rattle.machine.specs.Queue.{waiting}
 use Rattle.machine.specs.Step.{cleared, Outcome}
 use Rattle.machine.specs.Table.{capacity, scratchWords}
 use Rattle.machine.proofs.Kept.{machine-refused, machine-accepted}
-use Rattle.machine.proofs.Questions.{firstNo-append, firstNo-none, firstNo-all, early-numbered, lent-is}
+use Rattle.machine.proofs.Answers.{refusal-some}
+use Rattle.machine.proofs.Questions.{firstNo-append, firstNo-none, early-numbered}
 use Rattle.machine.proofs.Range.{and-first, and-second}
 use Rattle.machine.proofs.Scratch.{cleared-same}
 use Rattle.audit_packets.specs.Packets.{replaysAll}
@@ -74,28 +71,10 @@ module _ (t : List ℕ) (q : Queue) (s s′ : List ℕ) (past : drop (scratchWor
               none : firstNo (rules t q) ≡ 0
               none = unfold rules firstNo in (rw (a, b, c, d, e))
 
-refusal-some : (r : Refusal) → 0 < refusalNumber r
-refusal-some StoreOutOfRange = omega arith
-refusal-some ScratchTooShort = omega arith
-refusal-some NumberOutOfRange = omega arith
-refusal-some IllegalWord = omega arith
-refusal-some NotACell = omega arith
-refusal-some NotHeld = omega arith
-refusal-some QueueFull = omega arith
-refusal-some NoFreeCell = omega arith
-refusal-some HeldCountTooHigh = omega arith
-refusal-some TooManyPointers = omega arith
-
 -- the machine's audit, by questions 1 and 2, which are a step's
 module _ (t : List ℕ) (q : Queue) (s : List ℕ) where
   abbrev asks : ℕ
   asks = firstNo (early (store t q s) step)
-
-  pub says-yes : (x : Asked) → askedNumber x ≡ asks → x ≡ Asked.Yes → asks ≡ 0
-  says-yes x e y = sym e ∙ ap askedNumber y
-
-  pub says-no : (x : Asked) (n : Refusal) → askedNumber x ≡ asks → x ≡ Asked.No n → refusalNumber n ≡ asks
-  says-no x n e y = sym (ap askedNumber y) ∙ e
 
   same-questions : firstNo (early (store t q s) audit) ≡ asks
   unfolding early
@@ -118,12 +97,6 @@ module _ (t : List ℕ) (q : Queue) (s : List ℕ) where
           }
 
   module _ (a : asks ≡ 0) where
-    pub asked-lent : Lent t q s
-    unfolding early
-    asked-lent =
-        let yes = firstNo-all (early (store t q s) step) (early-numbered (store t q s) step) a in
-        lent-is t q s (yes .0) (yes .1 .0)
-
     accepted-audit : machine (store t q s) audit ≡ audited (store t q s)
     unfolding accepted questions
     accepted-audit =

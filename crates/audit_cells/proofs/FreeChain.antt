@@ -14,11 +14,11 @@ use Rattle.machine.specs.Facts.{Linked, Chain}
 use Rattle.machine.specs.Range.{every, total, matching, occurrences, everyOf, lastOf}
 use Rattle.machine.specs.Table.{left, right, rootCount, cellCount, state, capacity, firstFree, lastFree, wordAt, inUse, isFree}
 use Rattle.machine.specs.Words.{isCell}
-use Rattle.machine.proofs.Chain.{linked-places, total-occurrences, laid-wiped, chain-is}
+use Rattle.machine.proofs.Chain.{linked-indices, total-occurrences, laid-wiped, chain-is}
 use Rattle.machine.proofs.Lists.{lastOf-snoc}
 use Rattle.machine.proofs.Range.{tested, not-both, lt-or-ge, and-both, and-first, and-second, every-at, total-same, total-lt, matching-same, matching-other, occurrences-append}
 use Rattle.machine.proofs.Table.{free-not-in-use}
-use Rattle.machine.proofs.Words.{cell-place, cell-number, place-cell}
+use Rattle.machine.proofs.Words.{cell-index, cell-number, index-cell}
 use Rattle.audit_cells.specs.FreeChain.{freeOrUsed, freeLaidOut, freeBit, freeCells, isFreeCell}
 use Rattle.audit_cells.proofs.Tests.{refuted, and-no-second}
 
@@ -116,7 +116,7 @@ module _ (t : List ℕ) where
 
       short : occurrences i is < freeBit t i → ⊥
       short m =
-          let e = total-occurrences (capacity t) is (linked-places t w is h) in
+          let e = total-occurrences (capacity t) is (linked-indices t w is h) in
           let s : total (capacity t) (λ j. occurrences j is) < total (capacity t) (freeBit t) =
           total-lt (capacity t) (λ j. occurrences j is) (freeBit t) i l most m in
           omega arith
@@ -124,7 +124,7 @@ module _ (t : List ℕ) where
   chain-length : (js : List ℕ) → Chain t js → length js ≡ freeCells t
   unfolding freeCells freeBit
   chain-length js h =
-      sym (total-occurrences (capacity t) js (linked-places t (firstFree t) js (h .linked)))
+      sym (total-occurrences (capacity t) js (linked-indices t (firstFree t) js (h .linked)))
       ∙ total-same (capacity t) (λ j. occurrences j js) (freeBit t) (h .once)
 
   -- what the code knows after some steps
@@ -142,7 +142,7 @@ module _ (t : List ℕ) where
   unfolding isFreeCell
   free-cell w h =
       let c = and-first (isCell (capacity t) w) (isFree t (pred w)) h in
-      (cell-number (capacity t) w c, cell-place (capacity t) w c, and-second (isCell (capacity t) w) (isFree t (pred w)) h)
+      (cell-number (capacity t) w c, cell-index (capacity t) w c, and-second (isCell (capacity t) w) (isFree t (pred w)) h)
 
   -- one step more
   pub walked-more : (steps w last v : ℕ) (is : List ℕ) → Walked steps w last is → isFreeCell t w ≡ true → v ≡ wordAt t (w - 1) left
@@ -199,7 +199,7 @@ module _ (t : List ℕ) where
       where
         go : (ks : List ℕ) → chain .0 ≡ is ++ ks → Linked t w ks → length is + length ks ≡ freeCells t → isCell (capacity t) w && isFree t (pred w) ≡ true
         go [] e link m = let n = k .many in absurd (omega arith)
-        go (i ∷ ks) e link m = rw (link .0) (and-both (place-cell (capacity t) i (link .1)) (met i (link .1) (rw e (meets i is ks))))
+        go (i ∷ ks) e link m = rw (link .0) (and-both (index-cell (capacity t) i (link .1)) (met i (link .1) (rw e (meets i is ks))))
 
     pub walk-stops : steps ≡ freeCells t → (w ≡ 0) × (last ≡ lastFree t)
     walk-stops l = go (rest .0) (rest .1) (rest .2) many

@@ -19,7 +19,7 @@ use Rattle.machine.proofs.Lists.{waiting-snoc}
 use Rattle.machine.proofs.Range.{tested, below-suc, and-both, and-first, and-second, or-right, every-at, every-all, matching-other}
 use Rattle.machine.proofs.Replay.{replays-uses, replays-bound, replays-rest}
 use Rattle.machine.proofs.Ring.{packets-snoc}
-use Rattle.machine.proofs.Words.{cell-number, cell-place, place-cell}
+use Rattle.machine.proofs.Words.{cell-number, cell-index, index-cell}
 use Rattle.queue.specs.declared.HeldSums.{HeldSums}
 use Rattle.queue.specs.Sums.{CounterSums, WithCount, atLeast, atMostCeiling}
 use Rattle.audit_packets.specs.Packets.{packetOn, oldest, cutTo, HeldAfter, stageSound, wordReplays, packetReplays, replaysAll}
@@ -162,7 +162,7 @@ module _ (t : List ℕ) (q : Queue) where
   word-stage : (j x i : ℕ) → x ≡ suc i → i < capacity t → wordReplays t q j x ≡ true
       → stageSound (suc i) (wordAt t i rootCount) (oldest q j) (packetOn q j) ≡ true
   unfolding wordReplays
-  word-stage j x i e l h = let k = rw e at h in rw (place-cell (capacity t) i l) at k
+  word-stage j x i e l h = let k = rw e at h in rw (index-cell (capacity t) i l) at k
 
   word-back : (j x : ℕ) → ((i : ℕ) → i < capacity t → replays (suc i) (wordAt t i rootCount) (oldest q (suc j)) ≡ true) → wordReplays t q j x ≡ true
   unfolding wordReplays
@@ -171,7 +171,7 @@ module _ (t : List ℕ) (q : Queue) where
     where
       cell : isCell (capacity t) x ≡ true → stageSound x (wordAt t (pred x) rootCount) (oldest q j) (packetOn q j) ≡ true
       cell e =
-          let k = f (pred x) (cell-place (capacity t) x e) in
+          let k = f (pred x) (cell-index (capacity t) x e) in
           subst (λ (y : ℕ). stageSound y (wordAt t (pred x) rootCount) (oldest q j) (packetOn q j) ≡ true) (sym (cell-number (capacity t) x e))
           (replays-stage (suc (pred x)) (wordAt t (pred x) rootCount) (oldest q j) (packetOn q j) (rw (oldest-more j) at k))
 

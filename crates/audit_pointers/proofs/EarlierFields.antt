@@ -17,7 +17,7 @@ use Rattle.machine.specs.Table.{left, right, state, capacity, tableLength, word
 use Rattle.machine.specs.Words.{isNil, isCell, isAtom, isLegal, mostCells}
 use Rattle.machine.proofs.Range.{and-first, and-second, or-true, every-at}
 use Rattle.machine.proofs.Table.{Inside, room, word-put, word-other, length-putWord, capacity-putWord, inside-put}
-use Rattle.machine.proofs.Words.{cell-place, cell-number}
+use Rattle.machine.proofs.Words.{cell-index, cell-number}
 use Rattle.audit_packets.specs.Packets.{packetOn, packetSound}
 use Rattle.audit_pointers.specs.EarlierFields.{newer, fieldBeforeOf, fieldBefore, stageField}
 use Rattle.audit_packets.proofs.LegalPackets.{legal-every}
@@ -43,7 +43,7 @@ cell-used : (t : List ℕ) (w : ℕ) → capacity t ≤ mostCells → isCell (ca
 unfolding fieldSound isNil isAtom
 cell-used t w m c h =
     let n = cell-number (capacity t) w c in
-    let l = cell-place (capacity t) w c in
+    let l = cell-index (capacity t) w c in
     ⊎-elim
     (λ k. ⊎-elim (λ (e : eqb w 0 ≡ true). absurd (omega (arith, eqb-true w 0 e)))
     (λ (e : leb 32768 w && leb w 65535 ≡ true). absurd (omega (arith, leb-true 32768 w (and-first (leb 32768 w) (leb w 65535) e))))
@@ -83,10 +83,10 @@ unfolding wordsOfKind namesOf
 placed-of t reads a b c m f h n = tt
 placed-of t makes a b c m f h n =
     let e = and-second (isLegal (capacity t) a && isLegal (capacity t) b) (isCell (capacity t) c) h in
-    (cell-number (capacity t) c e, cell-place (capacity t) c e, cell-used t c m e (third-name (fieldSound t) a b c n))
+    (cell-number (capacity t) c e, cell-index (capacity t) c e, cell-used t c m e (third-name (fieldSound t) a b c n))
 placed-of t (replaces k) a b c m f h n =
     let e = and-second (isLegal (capacity t) a && isLegal (capacity t) b) (isCell (capacity t) c) h in
-    (cell-number (capacity t) c e, cell-place (capacity t) c e, cell-used t c m e (third-name (fieldSound t) a b c n), f)
+    (cell-number (capacity t) c e, cell-index (capacity t) c e, cell-used t c m e (third-name (fieldSound t) a b c n), f)
 placed-of t raises a b c m f h n = tt
 placed-of t lowers a b c m f h n = tt
 placed-of t unknown a b c m f h n = tt

@@ -22,7 +22,7 @@ use Rattle.machine.specs.Words.{isCell, ceiling, mostCells}
 use Rattle.machine.proofs.Range.{tested, and-both, or-right, matching-other}
 use Rattle.machine.proofs.Table.{word-other, length-putWord, capacity-putWord}
 use Rattle.machine.proofs.Undo.{within-is}
-use Rattle.machine.proofs.Words.{cell-place, place-cell}
+use Rattle.machine.proofs.Words.{cell-index, index-cell}
 use Rattle.audit_packets.specs.Packets.{packetOn}
 use Rattle.audit_pointers.specs.EarlierFields.{newer, stageField}
 use Rattle.audit_pointers.specs.PointerCounts.{CountUp, CountDown, Below, mostPointers, countWithin, wordWithin}
@@ -50,7 +50,7 @@ module _ (v v′ : List ℕ) (c b : ℕ) (s : List ℕ) (cv : capacity v ≡ c) 
       here : b ≡ suc i → pointers v′ (suc i) ≤ ceiling
       here e =
           let k = rw e at h in
-          let m = leb-true (getD s i 0) ceiling (rw (place-cell c i (omega arith)) at k) in
+          let m = leb-true (getD s i 0) ceiling (rw (index-cell c i (omega arith)) at k) in
           omega (arith, counts i (omega arith))
 
   back : pointersWithin v′ ≡ true → wordWithin c s b ≡ true
@@ -59,7 +59,7 @@ module _ (v v′ : List ℕ) (c b : ℕ) (s : List ℕ) (cv : capacity v ≡ c) 
     where
       cell : isCell c b ≡ true → not (isCell c b) || leb (getD s (pred b) 0) ceiling ≡ true
       cell e =
-          let l = cell-place c b e in
+          let l = cell-index c b e in
           or-right (not (isCell c b)) (le-leb (getD s (pred b) 0) ceiling (omega (arith, counts (pred b) l, within-is v′ .0 h (pred b) (omega arith))))
 
   within-word : wordWithin c s b ≡ pointersWithin v′

@@ -17,7 +17,7 @@ use Rattle.machine.specs.Table.{left, right, capacity, scratchWords, wordAt, in
 use Rattle.machine.specs.Words.{isCell, ceiling, mostCells}
 use Rattle.machine.proofs.Range.{tested, not-both, matching-same, matching-other}
 use Rattle.machine.proofs.Scratch.{cleared-zero, past-cleared}
-use Rattle.machine.proofs.Words.{cell-number, cell-place, place-cell}
+use Rattle.machine.proofs.Words.{cell-number, cell-index, index-cell}
 use Rattle.marks.proofs.Scratch.{cell-word, word-within}
 use Rattle.audit_cells.proofs.Tests.{total-more}
 use Rattle.audit_pointers.specs.PointerCounts.{CountUp, CountDown, Below, mostPointers, CountCell, Counted, countWithin, wordWithin}
@@ -31,7 +31,7 @@ pub cell-bounds : (c w : ℕ) {r : Bool} → r ≡ isCell c w → r ≡ true →
 cell-bounds c w e h =
     let k = sym e ∙ h in
     let n = cell-number c w k in
-    let l = cell-place c w k in
+    let l = cell-index c w k in
     (omega arith, omega arith)
 
 -- the scratch is enough for the C that the code read
@@ -41,7 +41,7 @@ scratch-of c n t e h = rw e h
 -- a word that is no cell of c
 module _ (c w : ℕ) (s : List ℕ) (no : isCell c w ≡ false) where
   other-word : (i : ℕ) → i < c → matching w (suc i) 1 ≡ 0
-  other-word i l = matching-other w (suc i) 1 (λ e. not-both (place-cell c i l) (rw e at no))
+  other-word i l = matching-other w (suc i) 1 (λ e. not-both (index-cell c i l) (rw e at no))
 
   pub up-none : CountUp c w s s
   up-none = record { each = λ i l. omega (arith, other-word i l); past = refl }

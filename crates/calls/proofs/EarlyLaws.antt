@@ -17,10 +17,10 @@ use Rattle.machine.specs.Facts.{Shape}
 use Rattle.machine.specs.declared.Asked
 use Rattle.machine.specs.declared.Asked.{Asked}
 use Rattle.machine.specs.declared.Refusal.{Refusal}
-use Rattle.machine.specs.declared.Refusal.the-variants.{StoreOutOfRange, ScratchTooShort, NumberOutOfRange, IllegalWord, NotACell, NotHeld, QueueFull, NoFreeCell, HeldCountTooHigh, TooManyPointers}
 use Rattle.machine.specs.Answers.{refusalNumber, askedNumber}
+use Rattle.machine.proofs.Answers.{refusal-some, asked-no, asked-yes}
 use Rattle.machine.proofs.Questions.{shape-is}
-use Rattle.machine.proofs.Words.{cell-place, cell-number}
+use Rattle.machine.proofs.Words.{cell-index, cell-number}
 use Rattle.calls.specs.Early.{wordsNumber, firstOf, cellNumber}
 
 pub number-some : (n : ℕ) → numberInRange n ≡ true → 1 ≤ n
@@ -93,29 +93,9 @@ pub cell-is : (t : List ℕ) (q : Queue) (n x y : ℕ) → cellNumber t q n x y 
 unfolding cellNumber
 cell-is t q n x y h = refused-five (isCell (capacity t) x) (first-both (wordsNumber t q n x y) (refusedBy (isCell (capacity t) x) 5 0) h .1)
 
--- every refusal has a number
-pub refusal-some : (f : Refusal) → refusalNumber f ≡ 0 → ⊥
-refusal-some StoreOutOfRange h = omega arith
-refusal-some ScratchTooShort h = omega arith
-refusal-some NumberOutOfRange h = omega arith
-refusal-some IllegalWord h = omega arith
-refusal-some NotACell h = omega arith
-refusal-some NotHeld h = omega arith
-refusal-some QueueFull h = omega arith
-refusal-some NoFreeCell h = omega arith
-refusal-some HeldCountTooHigh h = omega arith
-refusal-some TooManyPointers h = omega arith
-
--- what an answer says, by its case
-pub asked-no : {r : Asked} {f : Refusal} {n : ℕ} → askedNumber r ≡ n → r ≡ Asked.No f → refusalNumber f ≡ n
-asked-no h e = sym (ap askedNumber e) ∙ h
-
-pub asked-yes : {r : Asked} {n : ℕ} → askedNumber r ≡ n → r ≡ Asked.Yes → 0 ≡ n
-asked-yes h e = sym (ap askedNumber e) ∙ h
-
 -- an early "no" is the call's, and else the late answer is
 pub early-first : (total a b : ℕ) (r : Asked) (f : Refusal) → total ≡ firstOf a b → askedNumber r ≡ a → r ≡ Asked.No f → askedNumber r ≡ total
-early-first total a b r f e h d = h ∙ sym (first-some a b (λ z. refusal-some f (asked-no h d ∙ z))) ∙ sym e
+early-first total a b r f e h d = h ∙ sym (first-some a b (λ z. omega (arith, refusal-some f, asked-no h d ∙ z))) ∙ sym e
 
 pub late-first : (total a b : ℕ) (r m : Asked) → total ≡ firstOf a b → askedNumber r ≡ a → r ≡ Asked.Yes → askedNumber m ≡ b → askedNumber m ≡ total
 late-first total a b r m e h d k = k ∙ ap (λ (i : ℕ). firstOf i b) (asked-yes h d) ∙ sym e
@@ -142,7 +122,7 @@ callable t q n x y e =
     record {
       shape = shape;
       cell = c;
-      inside = omega (arith, cell-place (capacity t) x c);
+      inside = omega (arith, cell-index (capacity t) x c);
       first = omega (arith, cell-number (capacity t) x c);
       some = words-some t q n x y w;
     }

@@ -17,7 +17,7 @@ use Rattle.machine.specs.Counts.{heldAtLeast}
 use Rattle.machine.specs.Questions.{firstNo, refusedBy, heldEnough}
 use Rattle.machine.proofs.Range.{tested, not-both, or-left, or-false, every-at, every-all, matching-same, matching-other}
 use Rattle.machine.proofs.Lists.{and-true, everyOf-at, everyOf-all}
-use Rattle.machine.proofs.Words.{cell-place, cell-number, place-cell}
+use Rattle.machine.proofs.Words.{cell-index, cell-number, index-cell}
 use Rattle.queue.specs.declared.Sums.{Sums}
 use Rattle.queue.specs.Sums.{atLeast, atMostCeiling}
 use Rattle.calls.specs.Early.{Replaces}
@@ -47,7 +47,7 @@ held-words t ps p ws none = bool-same (every (capacity t) test) (everyOf ws (wor
       where
         inside : (w : ℕ) → isCell (capacity t) w ≡ true → wordHeld t ps p w ≡ true
         inside w e =
-            let k = every-at (capacity t) test h (pred w) (cell-place (capacity t) w e) in
+            let k = every-at (capacity t) test h (pred w) (cell-index (capacity t) w e) in
             rw e (rw (← (cell-number (capacity t) w e)) at k)
 
         outside : (w : ℕ) → isCell (capacity t) w ≡ false → wordHeld t ps p w ≡ true
@@ -60,7 +60,7 @@ held-words t ps p ws none = bool-same (every (capacity t) test) (everyOf ws (wor
         named i l m =
             let k : wordHeld t ps p (suc i) ≡ true = everyOf-at ws (wordHeld t ps p) (suc i) h m in
             let d : pred (suc i) ≡ i = omega arith in
-            rw (place-cell (capacity t) i l, d) at k
+            rw (index-cell (capacity t) i l, d) at k
 
         unnamed : (i : ℕ) → contains ws (suc i) ≡ false → test i ≡ true
         unnamed i m = or-left (heldAtLeast t ps i (uses p (suc i))) (eq-eqb (uses p (suc i)) 0 (none (suc i) m))

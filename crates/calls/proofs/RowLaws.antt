@@ -24,7 +24,8 @@ use Rattle.machine.specs.Answers.{refusalNumber, askedNumber, rowReply}
 use Rattle.calls.specs.Tests.{raisedWithin, freeByEnd, codeLate, codeQuestions}
 use Rattle.calls.specs.Early.{wordsNumber, firstOf, cellNumber}
 use Rattle.calls.specs.Called.{readCall, replaceCall, ReplaceKind, outcomeOf, RowCalled}
-use Rattle.calls.proofs.EarlyLaws.{words-shape, first-both, callable, refusal-some, asked-no, asked-yes}
+use Rattle.calls.proofs.EarlyLaws.{words-shape, first-both, callable}
+use Rattle.machine.proofs.Answers.{refusal-some, asked-no, asked-yes}
 use Rattle.calls.proofs.CallLaws.{fieldKind, field-kind, read-packet, replace-packet, read-back, read-questions, cons-questions, replace-questions, up-questions, down-questions}
 
 module _ (t : List ℕ) (q : Queue) (r : RowCall) where
@@ -45,7 +46,7 @@ module _ (t : List ℕ) (q : Queue) (r : RowCall) where
       e = asked-no s is
 
       go : (m : ℕ) → firstNo (codeQuestions t q r) ≡ m → RowCalled t q r a t q′
-      go zero d = absurd (refusal-some f (e ∙ d))
+      go zero d = absurd (omega (arith, refusal-some f, e ∙ d))
       go (suc m) d =
           let o = outcome-refused m d in
           record {

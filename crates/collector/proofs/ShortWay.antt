@@ -16,7 +16,7 @@ use Rattle.machine.specs.Reached.{isRoot, pointsTo, begun, onward, Reached, rea
 use Rattle.machine.specs.Step.{counterWord, moveCount, applyChanges, unreached}
 use Rattle.machine.specs.Audit.{allReached}
 use Rattle.machine.proofs.Range.{tested, or-true, or-false, every-at, matching-other}
-use Rattle.machine.proofs.Words.{place-cell}
+use Rattle.machine.proofs.Words.{index-cell}
 use Rattle.machine.proofs.Lists.{everyOf-at, select-none}
 use Rattle.machine.proofs.Table.{free-not-in-use}
 use Rattle.machine.proofs.Moves.{length-move, capacity-move, word-move, count-move, shifted-none}
@@ -101,7 +101,7 @@ module _ (t : List ℕ) (p : Packet) (ps : List Packet) (f : tableLength (capaci
     unfolding stayRoots staysRoot
     named-root i l m =
         let s = everyOf-at (threeNames p) (staysRoot t′ ps) (suc i) still (contains-three p (suc i) (omega arith) ∙ m) in
-        let c : isCell (capacity t′) (suc i) ≡ true = place-cell (capacity t′) i (rw (capacity-kept t (changes p)) l) in
+        let c : isCell (capacity t′) (suc i) ≡ true = index-cell (capacity t′) i (rw (capacity-kept t (changes p)) l) in
         rw c at s
 
     other-root : (i : ℕ) → i < capacity t → contains (names p) (suc i) ≡ false → isRoot t (p ∷ ps) i ≡ true → isRoot t′ ps i ≡ true

@@ -7,10 +7,7 @@ use Prim.Native.Nat.{ℕ, suc, pred, _<_}
 use native.Mathlib.Omega.{arith}
 use lib.ListN.{length}
 use Rattle.machine.specs.declared.Queue.{Queue}
-use Rattle.machine.specs.declared.Asked
-use Rattle.machine.specs.declared.Asked.{Asked}
 use Rattle.machine.specs.declared.Refusal.{Refusal}
-use Rattle.machine.specs.declared.Refusal.the-variants.{StoreOutOfRange, ScratchTooShort, NumberOutOfRange, IllegalWord, NotACell, NotHeld, QueueFull, NoFreeCell, HeldCountTooHigh, TooManyPointers}
 use Rattle.machine.specs.declared.StepAnswer
 use Rattle.machine.specs.declared.StepAnswer.{StepAnswer}
 use Rattle.machine.specs.Range.{select}
@@ -21,15 +18,16 @@ use Rattle.machine.specs.Reached.{reached}
 use Rattle.machine.specs.Calls.{step, refused, idle, applied, store}
 use Rattle.machine.specs.Step.{moveCount, applyChanges, unreached, joinAll, lowerPointers, swept, cleared, outcome, stepWith, stepFrom, stepped}
 use Rattle.machine.specs.Questions.{firstNo, early}
-use Rattle.machine.specs.Answers.{refusalNumber, askedNumber, stepReply}
+use Rattle.machine.specs.Answers.{refusalNumber, stepReply}
 use Rattle.machine.specs.Promise.{Untouched}
 use Rattle.machine.specs.Facts.{TableShape, Lent}
 use Rattle.machine.proofs.Range.{tested}
 use Rattle.machine.proofs.Ring.{waiting-taken}
 use Rattle.machine.proofs.Scratch.{length-cleared, past-cleared, cleared-same}
-use Rattle.machine.proofs.Select.{select-places}
+use Rattle.machine.proofs.Select.{select-indices}
 use Rattle.machine.proofs.Sweep.{sweeps}
-use Rattle.machine.proofs.Questions.{firstNo-all, early-numbered, lent-is}
+use Rattle.machine.proofs.Answers.{refusal-some}
+use Rattle.machine.proofs.Questions.{asked-lent}
 use Rattle.machine.proofs.Kept.{Framed, framed-changes}
 use Rattle.marks.specs.Names.{stayRoots}
 use Rattle.marks.specs.Marks.{isMarked, Marks}
@@ -97,7 +95,7 @@ module _ (t : List ℕ) (q : Queue) (s : List ℕ) (h : Lent t q s) (some : 0 < 
       go : (b : Bool) → Framed t (cond b t₁ (swept t₁ (unreached t₁ ps)))
       go true = f
       go false =
-          let w = sweeps t₁ (unreached t₁ ps) (k .room) (unfold unreached in select-places (capacity t₁) (λ i. inUse t₁ i && not (reached t₁ ps i))) (k .last) in
+          let w = sweeps t₁ (unreached t₁ ps) (k .room) (unfold unreached in select-indices (capacity t₁) (λ i. inUse t₁ i && not (reached t₁ ps i))) (k .last) in
           record {
             sameLength = w .sameLength ∙ f .sameLength;
             sameCapacity = w .sameCapacity ∙ f .sameCapacity;
@@ -134,34 +132,10 @@ module _ (t : List ℕ) (q : Queue) (s : List ℕ) (h : Lent t q s) (some : 0 < 
       rw (collected-is m, number-is m, ← framed-fitting t (changes p) .sameCapacity, apply-fits t (changes p) (m .fit), stepped-is)
       (unfold stepWith in refl)
 
-refusal-some : (x : Refusal) → 0 < refusalNumber x
-refusal-some StoreOutOfRange = omega arith
-refusal-some ScratchTooShort = omega arith
-refusal-some NumberOutOfRange = omega arith
-refusal-some IllegalWord = omega arith
-refusal-some NotACell = omega arith
-refusal-some NotHeld = omega arith
-refusal-some QueueFull = omega arith
-refusal-some NoFreeCell = omega arith
-refusal-some HeldCountTooHigh = omega arith
-refusal-some TooManyPointers = omega arith
-
 -- what questions 1 and 2 say
 module _ (t : List ℕ) (q : Queue) (s : List ℕ) where
   abbrev asks : ℕ
   asks = firstNo (early (store t q s) step)
-
-  pub says-yes : (x : Asked) → askedNumber x ≡ asks → x ≡ Asked.Yes → asks ≡ 0
-  says-yes x e y = sym e ∙ ap askedNumber y
-
-  pub says-no : (x : Asked) (n : Refusal) → askedNumber x ≡ asks → x ≡ Asked.No n → refusalNumber n ≡ asks
-  says-no x n e y = sym (ap askedNumber y) ∙ e
-
-  pub asked-lent : asks ≡ 0 → Lent t q s
-  unfolding early
-  asked-lent a =
-      let yes = firstNo-all (early (store t q s) step) (early-numbered (store t q s) step) a in
-      lent-is t q s (yes .0) (yes .1 .0)
 
   untouched : (q′ : Queue) → Untouched (store t q s) (store t q′ s)
   untouched q′ = record { sameLength = refl; sameCapacity = refl; pastCells = refl; scratchLength = refl; pastScratch = refl }
@@ -216,7 +190,7 @@ module _ (t : List ℕ) (q : Queue) (s : List ℕ) where
   }
     where
       h : Lent t q s
-      h = asked-lent a
+      h = asked-lent t q s a
 
       f : Framed t (collected (applyFitting t (changes (oldest q))) (waiting (taken q)) (oldest q))
       f = framed-collected t q s h some

@@ -14,10 +14,10 @@ use Rattle.machine.specs.Packets.{cell, minus}
 use Rattle.machine.specs.Step.{moveCount, lowerPointers, join, joinAll, swept}
 use Rattle.machine.specs.Facts.{TableShape}
 use Rattle.machine.proofs.Range.{tested}
-use Rattle.machine.proofs.Lists.{Places}
+use Rattle.machine.proofs.Lists.{Indices}
 use Rattle.machine.proofs.Moves.{length-move, capacity-move, lastFree-move, word-move}
 use Rattle.machine.proofs.Sweep.{joins}
-use Rattle.machine.proofs.Select.{select-places}
+use Rattle.machine.proofs.Select.{select-indices}
 use Rattle.machine.proofs.Commute.{join-move}
 use Rattle.marks.specs.Marks.{isMarked}
 use Rattle.collector.specs.SweepPass.{isDead, freed, endLeft, leftBefore, passed}
@@ -128,7 +128,7 @@ module _ (l : ℕ → ℕ) where
       ap (λ (u : List ℕ). lowerAll u is) (join-lower c t g i h j (l j) (d .0)) ∙ join-lowerAll c (lower t j (l j)) (lower-good t j (l j) c g) i h is (d .1)
 
   -- one pass is two
-  free-all : (c : ℕ) (t : List ℕ) → Good c t → (is : List ℕ) → Places c is → Distinct is → freeAll t is ≡ joinAll (lowerAll t is) is
+  free-all : (c : ℕ) (t : List ℕ) → Good c t → (is : List ℕ) → Indices c is → Distinct is → freeAll t is ≡ joinAll (lowerAll t is) is
   unfolding freeAll lowerAll joinAll
   free-all c t g [] p d = refl
   free-all c t g (i ∷ is) p d =
@@ -147,7 +147,7 @@ module _ (l : ℕ → ℕ) where
     words : (k : ℕ) → k < stride → k ≢ 3 → k ≢ left → wordAt u i k ≡ wordAt t i k
     lefts : suc i ≢ lastFree t → wordAt u i left ≡ wordAt t i left
 
-  stands : (c : ℕ) (t : List ℕ) → Good c t → (is : List ℕ) → Places c is → (i : ℕ) → Without i is → Stands c t i (freeAll t is)
+  stands : (c : ℕ) (t : List ℕ) → Good c t → (is : List ℕ) → Indices c is → (i : ℕ) → Without i is → Stands c t i (freeAll t is)
   unfolding freeAll
   stands c t g [] p i d = record { good = g; words = λ k h m n. refl; lefts = λ n. refl }
   stands c t g (j ∷ is) p i d =
@@ -163,7 +163,7 @@ module _ (l : ℕ → ℕ) where
       }
 
 -- the numbers that pass a test differ
-without-below : (n : ℕ) (is : List ℕ) → Places n is → Without n is
+without-below : (n : ℕ) (is : List ℕ) → Indices n is → Without n is
 without-below n [] p = tt
 without-below n (i ∷ is) p = let h = p .0 in (omega arith, without-below n is (p .1))
 
@@ -181,10 +181,10 @@ select-distinct zero p = tt
 select-distinct (suc n) p = go (p n) (select-distinct n p)
   where
     go : (b : Bool) → Distinct (select n p) → Distinct (select n p ++ cond b (n ∷ []) [])
-    go true d = distinct-snoc (select n p) n d (without-below n (select n p) (select-places n p))
+    go true d = distinct-snoc (select n p) n d (without-below n (select n p) (select-indices n p))
     go false d = rw append-nil d
 
-places-wider : (n c : ℕ) (is : List ℕ) → n ≤ c → Places n is → Places c is
+places-wider : (n c : ℕ) (is : List ℕ) → n ≤ c → Indices n is → Indices c is
 places-wider n c [] h p = tt
 places-wider n c (i ∷ is) h p = let l = p .0 in (omega arith, places-wider n c is h (p .1))
 
@@ -226,8 +226,8 @@ module _ (t s : List ℕ) where
       here : Stands lefts c t n (passedTo n)
       unfolding passedTo
       here =
-          stands lefts c t g (select n (isDead t s)) (places-wider n c (select n (isDead t s)) (omega arith) (select-places n (isDead t s))) n
-          (without-below n (select n (isDead t s)) (select-places n (isDead t s)))
+          stands lefts c t g (select n (isDead t s)) (places-wider n c (select n (isDead t s)) (omega arith) (select-indices n (isDead t s))) n
+          (without-below n (select n (isDead t s)) (select-indices n (isDead t s)))
 
       -- a cell that the pass has not come to is dead as before, and its left word is known
       pub still-dead : isDead (passedTo n) s n ≡ isDead t s n
@@ -263,5 +263,5 @@ module _ (t s : List ℕ) where
     pub passed-all : passedTo c ≡ swept t (select c (isDead t s))
     unfolding passedTo swept
     passed-all =
-        free-all lefts c t g (select c (isDead t s)) (select-places c (isDead t s)) (select-distinct c (isDead t s))
+        free-all lefts c t g (select c (isDead t s)) (select-indices c (isDead t s)) (select-distinct c (isDead t s))
         ∙ ap (λ (u : List ℕ). joinAll u (select c (isDead t s))) (lower-all lefts t (select c (isDead t s)) (λ i. refl))

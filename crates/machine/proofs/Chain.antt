@@ -16,9 +16,9 @@ use Rattle.machine.specs.Calls.{field}
 use Rattle.machine.specs.Audit.{walk, freeChain, laidOut, metOnce, chainSound}
 use Rattle.machine.specs.Facts.{Linked, Chain}
 use Rattle.machine.proofs.Range.{tested, or-left, or-right, and-both, and-first, and-second, every-at, every-all, total-le, total-add, total-ones, total-zero, total-one}
-use Rattle.machine.proofs.Lists.{at-most-one, Places}
+use Rattle.machine.proofs.Lists.{at-most-one, Indices}
 use Rattle.machine.proofs.Table.{each-word, free-not-in-use, not-in-use-free}
-use Rattle.machine.proofs.Words.{cell-place, cell-number, place-cell}
+use Rattle.machine.proofs.Words.{cell-index, cell-number, index-cell}
 
 -- indices as numbers
 matching-suc : (w x n : ℕ) → matching (suc w) (suc x) n ≡ matching w x n
@@ -31,19 +31,19 @@ occurrences-suc x [] = refl
 occurrences-suc x (i ∷ is) = rw (matching-suc i x 1, occurrences-suc x is)
 
 -- the indices below c, each counted as often as it stands in a list, are the list's length
-pub total-occurrences : (c : ℕ) (is : List ℕ) → Places c is → total c (λ i. occurrences i is) ≡ length is
+pub total-occurrences : (c : ℕ) (is : List ℕ) → Indices c is → total c (λ i. occurrences i is) ≡ length is
 unfolding occurrences
 total-occurrences c [] p = total-zero c
 total-occurrences c (i ∷ is) p =
     total-add c (λ j. matching i j 1) (λ j. occurrences j is) ∙ ap₂ _+_ (total-one c i (p .0)) (total-occurrences c is (p .1)) ∙ omega arith
 
 -- no index twice: no more than there are
-few : (c : ℕ) (is : List ℕ) → Places c is → ((i : ℕ) → i < c → occurrences i is ≤ 1) → length is ≤ c
+few : (c : ℕ) (is : List ℕ) → Indices c is → ((i : ℕ) → i < c → occurrences i is ≤ 1) → length is ≤ c
 few c is p h = omega (arith, total-occurrences c is p, total-le c (λ i. occurrences i is) (λ i. 1) h, total-ones c)
 
-pub linked-places : (t : List ℕ) (w : ℕ) (is : List ℕ) → Linked t w is → Places (capacity t) is
-linked-places t w [] h = tt
-linked-places t w (i ∷ is) h = (h .1, linked-places t (wordAt t i left) is (h .2))
+pub linked-indices : (t : List ℕ) (w : ℕ) (is : List ℕ) → Linked t w is → Indices (capacity t) is
+linked-indices t w [] h = tt
+linked-indices t w (i ∷ is) h = (h .1, linked-indices t (wordAt t i left) is (h .2))
 
 walk-stop : (t : List ℕ) (n w : ℕ) → eqb w 0 ≡ true → walk t (suc n) w ≡ []
 unfolding walk
@@ -68,7 +68,7 @@ walk-linked t (suc n) w l h = ⊎-elim stop (λ e. on e (λ k m. walk-linked t n
         let l′ = rw (walk-on t n w e) at l in
         let first = and-first (isCell (capacity t) w) (everyOf (walk t n (wordAt t (pred w) left)) (isCell (capacity t))) h′ in
         let rest = and-second (isCell (capacity t) w) (everyOf (walk t n (wordAt t (pred w) left)) (isCell (capacity t))) h′ in
-        rw (walk-on t n w e) (cell-number (capacity t) w first, cell-place (capacity t) w first, f (omega arith) rest)
+        rw (walk-on t n w e) (cell-number (capacity t) w first, cell-index (capacity t) w first, f (omega arith) rest)
 
 -- and the numbers of its indices are the walk
 walk-numbers : (c : ℕ) (ws : List ℕ) → everyOf ws (isCell c) ≡ true → map suc (map pred ws) ≡ ws
@@ -88,10 +88,10 @@ linked-walk t (suc n) w (i ∷ is) h l =
     again : walk t n (wordAt t i left) ≡ map suc is → walk t n (field t (suc i) left) ≡ map suc is
     again e = e
 
-numbers-cells : (c : ℕ) (is : List ℕ) → Places c is → everyOf (map suc is) (isCell c) ≡ true
+numbers-cells : (c : ℕ) (is : List ℕ) → Indices c is → everyOf (map suc is) (isCell c) ≡ true
 unfolding everyOf
 numbers-cells c [] p = refl
-numbers-cells c (i ∷ is) p = and-both (place-cell c i (p .0)) (numbers-cells c is (p .1))
+numbers-cells c (i ∷ is) p = and-both (index-cell c i (p .0)) (numbers-cells c is (p .1))
 
 pub laid-wiped : (t : List ℕ) (i : ℕ) → laidOut t i ≡ true → (k : ℕ) → right ≤ k → k < stride → wordAt t i k ≡ 0
 unfolding laidOut
@@ -155,11 +155,11 @@ module _ (t : List ℕ) (h : chainSound t ≡ true) where
   indices-once : (i : ℕ) → i < capacity t → occurrences i indices ≡ cond (isFree t i) 1 0
   indices-once i l = sym (occurrences-suc i indices) ∙ ap (occurrences (suc i)) numbers-of ∙ met-once i l
 
-  indices-below : (ws : List ℕ) → everyOf ws (isCell (capacity t)) ≡ true → Places (capacity t) (map pred ws)
+  indices-below : (ws : List ℕ) → everyOf ws (isCell (capacity t)) ≡ true → Indices (capacity t) (map pred ws)
   unfolding everyOf
   indices-below [] e = tt
   indices-below (w ∷ ws) e = (
-    cell-place (capacity t) w (and-first (isCell (capacity t) w) (everyOf ws (isCell (capacity t))) e),
+    cell-index (capacity t) w (and-first (isCell (capacity t) w) (everyOf ws (isCell (capacity t))) e),
     indices-below ws (and-second (isCell (capacity t) w) (everyOf ws (isCell (capacity t))) e),
   )
 
@@ -184,8 +184,8 @@ module _ (t : List ℕ) (h : chainSound t ≡ true) where
   }
 
 module _ (t : List ℕ) (is : List ℕ) (h : Chain t is) where
-  below : Places (capacity t) is
-  below = linked-places t (firstFree t) is (h .linked)
+  below : Indices (capacity t) is
+  below = linked-indices t (firstFree t) is (h .linked)
 
   pub chain-few : length is ≤ capacity t
   chain-few = few (capacity t) is below (λ i l. rw (h .once i l) (at-most-one (isFree t i)))

@@ -14,7 +14,7 @@ use Rattle.machine.specs.Table.{stride, header, left, cellCount, freeCel
 use Rattle.machine.specs.Packets.{cell, minus}
 use Rattle.machine.specs.Step.{moveCount, join}
 use Rattle.machine.proofs.Range.{tested}
-use Rattle.machine.proofs.Words.{cell-place}
+use Rattle.machine.proofs.Words.{cell-index}
 use Rattle.machine.proofs.Table.{put-itself, firstFree-putWord, lastFree-putWord}
 use Rattle.machine.proofs.Sweep.{joins}
 
@@ -90,7 +90,7 @@ module _ (t : List ℕ) (i w n : ℕ) (f : tableLength (capacity t) ≤ length t
   -- lowering the count of a cell that is wiped, or of another
   pub join-move : moveCount (join t i) cell w minus n ≡ join (moveCount t cell w minus n) i
   unfolding moveCount
-  join-move = rw (joins t i f l b .sameCapacity) (⊎-elim (λ (e : isCell (capacity t) w ≡ true). rw e (at-cell (cell-place (capacity t) w e))) (λ (e : isCell (capacity t) w ≡ false). rw e) (tested (isCell (capacity t) w)))
+  join-move = rw (joins t i f l b .sameCapacity) (⊎-elim (λ (e : isCell (capacity t) w ≡ true). rw e (at-cell (cell-index (capacity t) w e))) (λ (e : isCell (capacity t) w ≡ false). rw e) (tested (isCell (capacity t) w)))
     where
       at-cell : pred w < capacity t → putWord (join t i) (pred w) cellCount (wordAt (join t i) (pred w) cellCount - n) ≡ join (putWord t (pred w) cellCount (wordAt t (pred w) cellCount - n)) i
       at-cell m = ⊎-elim (λ e. here (eqb-true (pred w) i e)) (λ e. elsewhere (eqb-false (pred w) i e)) (tested (eqb (pred w) i))

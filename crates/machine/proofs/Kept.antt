@@ -16,12 +16,12 @@ use Rattle.machine.specs.Questions.{firstNo, earlyRow, early, late, ques
 use Rattle.machine.specs.Audit.{rules, auditReply, audited}
 use Rattle.machine.specs.Machine.{accepted, answered, machine}
 use Rattle.machine.specs.Promise.{ByMachine, Gives, Untouched, Bounded, numbers, Promise}
-use Rattle.machine.proofs.Words.{cell-place}
+use Rattle.machine.proofs.Words.{cell-index}
 use Rattle.machine.proofs.Table.{length-putWord, length-putEnds, length-putCell, capacity-putWord, capacity-putEnds, capacity-putCell, past-putWord, past-putEnds, past-putCell}
 use Rattle.machine.proofs.Scratch.{length-cleared, past-cleared}
 use Rattle.machine.proofs.Moves.{length-move, capacity-move, lastFree-move, past-move}
 use Rattle.machine.proofs.Sweep.{sweeps}
-use Rattle.machine.proofs.Select.{select-places}
+use Rattle.machine.proofs.Select.{select-indices}
 use Rattle.machine.proofs.Questions.{AllYes, firstNo-append, firstNo-none, firstNo-number, firstNo-all, early-numbered, shape-is}
 
 pub machine-refused : (s : Store) (call : Call) (n : ℕ) → firstNo (questions s call) ≡ suc n → machine s call ≡ outcome (refused (suc n)) s
@@ -106,7 +106,7 @@ framed-new t f g i ws e h = record {
 -- the questions that say "yes" before a row call is accepted make its writes lie within the cells
 x-index : (t : List ℕ) (x : ℕ) → xIsCell t x ≡ true → pred x < capacity t
 unfolding xIsCell
-x-index t x h = cell-place (capacity t) x h
+x-index t x h = cell-index (capacity t) x h
 
 framed-written : (s : Store) (r : RowCall) → AllYes (early s (row r)) → Framed (s .table) (written (s .table) r)
 unfolding early earlyRow written withoutFirst
@@ -137,7 +137,7 @@ framed-changes t (h ∷ hs) =
 framed-swept : (t : List ℕ) (ps : List Packet) → tableLength (capacity t) ≤ length t → lastFree t ≤ capacity t → Framed t (swept t (unreached t ps))
 unfolding unreached
 framed-swept t ps f b =
-    let w = sweeps t (unreached t ps) f (select-places (capacity t) _) b in
+    let w = sweeps t (unreached t ps) f (select-indices (capacity t) _) b in
     record { sameLength = w .sameLength; sameCapacity = w .sameCapacity; pastCells = w .pastCells }
 
 untouched : (s : Store) (t : List ℕ) (q : _) (u : List ℕ) → Framed (s .table) t → length u ≡ length (s .scratch) → drop (scratchWords (capacity (s .table))) u ≡ drop (scratchWords (capacity (s .table))) (s .scratch) → Untouched s (store t q u)

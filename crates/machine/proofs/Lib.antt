@@ -14,6 +14,7 @@ pub mod Sweep
 pub mod Commute
 pub mod Select
 pub mod Fresh
+pub mod Answers
 pub mod Questions
 pub mod Kept
 pub mod Computes

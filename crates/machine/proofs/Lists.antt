@@ -56,11 +56,11 @@ last-occurs (y ∷ []) z e = omega (arith, matching-same y z 1 (omega arith))
 last-occurs (y ∷ x ∷ ys) z e = omega (arith, last-occurs (x ∷ ys) z e)
 
 -- numbers below c, and none of them past it
-abbrev pub Places : ℕ → List ℕ → Type 0
-Places c [] = Unit {0}
-Places c (i ∷ is) = (i < c) × Places c is
+abbrev pub Indices : ℕ → List ℕ → Type 0
+Indices c [] = Unit {0}
+Indices c (i ∷ is) = (i < c) × Indices c is
 
-pub none-past : (c : ℕ) (is : List ℕ) → Places c is → (i : ℕ) → c ≤ i → occurrences i is ≡ 0
+pub none-past : (c : ℕ) (is : List ℕ) → Indices c is → (i : ℕ) → c ≤ i → occurrences i is ≡ 0
 unfolding occurrences
 none-past c [] h i l = refl
 none-past c (j ∷ is) h i l = let k = h .0 in omega (arith, matching-other j i 1 (omega arith), none-past c is (h .1) i l)

@@ -14,7 +14,7 @@ use Rattle.machine.specs.Table.{stride, capacity, firstFree, lastFree, t
 use Rattle.machine.specs.Packets.{Counter, root, cell, Direction, plus, minus}
 use Rattle.machine.specs.Step.{counterWord, shifted, moveCount}
 use Rattle.machine.proofs.Range.{tested, matching-same, matching-other}
-use Rattle.machine.proofs.Words.{cell-place, cell-number, place-cell}
+use Rattle.machine.proofs.Words.{cell-index, cell-number, index-cell}
 use Rattle.machine.proofs.Table.{room, word-same, word-other, length-putWord, capacity-putWord, firstFree-putWord, lastFree-putWord, past-putWord}
 
 pub counter-below : (k : Counter) → counterWord k < stride
@@ -59,7 +59,7 @@ module _ (t : List ℕ) (k : Counter) (w : ℕ) (d : Direction) (n : ℕ) where
 
   pub past-move : drop (tableLength (capacity t)) (moveCount t k w d n) ≡ drop (tableLength (capacity t)) t
   unfolding to
-  past-move = move-keeps (λ u. drop (tableLength (capacity t)) u ≡ drop (tableLength (capacity t)) t) refl (λ e. past-putWord t (capacity t) (pred w) (counterWord k) _ (cell-place (capacity t) w e) (counter-below k))
+  past-move = move-keeps (λ u. drop (tableLength (capacity t)) u ≡ drop (tableLength (capacity t)) t) refl (λ e. past-putWord t (capacity t) (pred w) (counterWord k) _ (cell-index (capacity t) w e) (counter-below k))
 
   -- every word but the counter stands
   pub word-move : (j m : ℕ) → m < stride → m ≢ counterWord k → wordAt (moveCount t k w d n) j m ≡ wordAt t j m
@@ -75,7 +75,7 @@ module _ (t : List ℕ) (k : Counter) (w : ℕ) (d : Direction) (n : ℕ) where
       here e =
           let p : pred w ≡ j = omega arith in
           let at-j = word-same t (pred w) (counterWord k) (shifted d (wordAt t (pred w) (counterWord k)) n) (room t (capacity t) (pred w) f (omega arith)) (counter-below k) in
-          rw (move-cell (rw e (place-cell (capacity t) j l)), matching-same w (suc j) n e)
+          rw (move-cell (rw e (index-cell (capacity t) j l)), matching-same w (suc j) n e)
           (ap (λ (i : ℕ). wordAt to i (counterWord k)) (sym p) ∙ at-j ∙ ap (λ (i : ℕ). shifted d (wordAt t i (counterWord k)) n) p)
 
       elsewhere : (w ≡ suc j → ⊥) → wordAt (moveCount t k w d n) j (counterWord k) ≡ shifted d (wordAt t j (counterWord k)) (matching w (suc j) n)

@@ -9,6 +9,11 @@ use lib.Dec.{leb, ltb, eqb}
 use lib.ListN.{length}
 use borrow.Author.Tests.{leb-true, le-leb, ltb-true, lt-ltb, eq-eqb}
 use Rattle.machine.specs.declared.Queue.{Queue}
+use Rattle.machine.specs.declared.Refusal.{Refusal}
+use Rattle.machine.specs.declared.Asked
+use Rattle.machine.specs.declared.Asked.{Asked}
+use Rattle.machine.specs.Answers.{refusalNumber, askedNumber}
+use Rattle.machine.proofs.Answers.{asked-no, asked-yes}
 use Rattle.machine.specs.Words.{mostCells}
 use Rattle.machine.specs.Table.{capacity, firstFree, lastFree, tableLength, scratchWords}
 use Rattle.machine.specs.Queue.{slots}
@@ -129,6 +134,16 @@ module _ (t : List ℕ) (q : Queue) (s : List ℕ) where
   pub step-asked : inRange t q ≡ true → scratchEnough t s ≡ true → firstNo (early (store t q s) step) ≡ 0
   unfolding firstNo early
   step-asked h e = rw (h, e)
+
+  pub says-yes : (x : Asked) → askedNumber x ≡ firstNo (early (store t q s) step) → x ≡ Asked.Yes → firstNo (early (store t q s) step) ≡ 0
+  says-yes x e y = sym (asked-yes e y)
+
+  pub says-no : (x : Asked) (f : Refusal) → askedNumber x ≡ firstNo (early (store t q s) step) → x ≡ Asked.No f → refusalNumber f ≡ firstNo (early (store t q s) step)
+  says-no x f e y = asked-no e y
+
+  pub asked-lent : firstNo (early (store t q s) step) ≡ 0 → Lent t q s
+  unfolding early
+  asked-lent a = let yes = firstNo-all (early (store t q s) step) (early-numbered (store t q s) step) a in lent-is t q s (yes .0) (yes .1 .0)
 
 -- where everything but the length is within range, the length decides
 pub in-range-length : (t : List ℕ) (q : Queue) → 1 ≤ capacity t → capacity t ≤ mostCells → firstFree t ≤ capacity t → lastFree t ≤ capacity t → q .place < slots → q .count ≤ slots

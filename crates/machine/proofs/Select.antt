@@ -16,7 +16,7 @@ use Rattle.machine.specs.Reached.{Reached, reached}
 use Rattle.machine.specs.Step.{unreached}
 use Rattle.machine.specs.Facts.{Ascending, Dead}
 use Rattle.machine.proofs.Range.{tested, not-both, below-suc, or-true, or-left, or-right, and-both, and-first, and-second, matching-same, matching-other, occurrences-append}
-use Rattle.machine.proofs.Lists.{Places, none-past}
+use Rattle.machine.proofs.Lists.{Indices, none-past}
 use Rattle.machine.proofs.Reached.{reached-is}
 
 contains-append : (xs ys : List ℕ) (i : ℕ) → contains (xs ++ ys) i ≡ contains xs i || contains ys i
@@ -63,24 +63,24 @@ select-members (suc n) p i = (there (select-members n p i .0), back (select-memb
         (λ (e : i ≡ n). or-right (contains (select n p) i) (rw e (contains-tail p n (rw e at (w .1))))) (below-suc (w .0)))
 
 -- indices below a bound stay below a larger one
-indices-more : (n : ℕ) (is : List ℕ) → Places n is → Places (suc n) is
+indices-more : (n : ℕ) (is : List ℕ) → Indices n is → Indices (suc n) is
 indices-more n [] h = tt
 indices-more n (i ∷ is) h = let l = h .0 in (omega arith, indices-more n is (h .1))
 
-indices-append : (n : ℕ) (xs ys : List ℕ) → Places n xs → Places n ys → Places n (xs ++ ys)
+indices-append : (n : ℕ) (xs ys : List ℕ) → Indices n xs → Indices n ys → Indices n (xs ++ ys)
 indices-append n [] ys h k = k
 indices-append n (x ∷ xs) ys h k = (h .0, indices-append n xs ys (h .1) k)
 
-indices-tail : (p : ℕ → Bool) (n : ℕ) (b : Bool) → Places (suc n) (cond b (n ∷ []) [])
+indices-tail : (p : ℕ → Bool) (n : ℕ) (b : Bool) → Indices (suc n) (cond b (n ∷ []) [])
 indices-tail p n true = (omega arith, tt)
 indices-tail p n false = tt
 
-pub select-places : (n : ℕ) (p : ℕ → Bool) → Places n (select n p)
+pub select-indices : (n : ℕ) (p : ℕ → Bool) → Indices n (select n p)
 unfolding select
-select-places zero p = tt
-select-places (suc n) p = indices-append (suc n) (select n p) (tail p n) (indices-more n (select n p) (select-places n p)) (indices-tail p n (p n))
+select-indices zero p = tt
+select-indices (suc n) p = indices-append (suc n) (select n p) (tail p n) (indices-more n (select n p) (select-indices n p)) (indices-tail p n (p n))
 
-ascending-snoc : (n : ℕ) (is : List ℕ) (b : Bool) → Ascending is → Places n is → Ascending (is ++ cond b (n ∷ []) [])
+ascending-snoc : (n : ℕ) (is : List ℕ) (b : Bool) → Ascending is → Indices n is → Ascending (is ++ cond b (n ∷ []) [])
 ascending-snoc n [] true h p = tt
 ascending-snoc n [] false h p = tt
 ascending-snoc n (i ∷ []) true h p = (p .0, tt)
@@ -90,7 +90,7 @@ ascending-snoc n (i ∷ j ∷ is) b h p = (h .0, ascending-snoc n (j ∷ is) b (
 pub select-ascending : (n : ℕ) (p : ℕ → Bool) → Ascending (select n p)
 unfolding select
 select-ascending zero p = tt
-select-ascending (suc n) p = ascending-snoc n (select n p) (p n) (select-ascending n p) (select-places n p)
+select-ascending (suc n) p = ascending-snoc n (select n p) (p n) (select-ascending n p) (select-indices n p)
 
 -- each number that passes stands there once
 occurrences-tail : (n i : ℕ) (b : Bool) → occurrences i (cond b (n ∷ []) []) ≡ cond b (matching n i 1) 0
@@ -116,7 +116,7 @@ select-once (suc n) p i l = ⊎-elim (λ m. inside m (select-once n p i m)) last
     last : i ≡ n → occurrences i (select n p ++ tail p n) ≡ cond (p i) 1 0
     last e =
         split
-        ∙ ap₂ _+_ (none-past n (select n p) (select-places n p) i (omega arith)) (ap (λ (k : ℕ). cond (p n) k 0) (matching-same n i 1 (sym e)) ∙ ap (λ (k : ℕ). cond (p k) 1 0) (sym e))
+        ∙ ap₂ _+_ (none-past n (select n p) (select-indices n p) i (omega arith)) (ap (λ (k : ℕ). cond (p n) k 0) (matching-same n i 1 (sym e)) ∙ ap (λ (k : ℕ). cond (p k) 1 0) (sym e))
         ∙ omega arith
 
 -- the cells that a step frees

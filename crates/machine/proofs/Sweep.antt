@@ -17,7 +17,7 @@ use Rattle.machine.specs.Facts.{Linked, pointersOut, Sweep}
 use Rattle.machine.proofs.Range.{tested, not-both, occurrences-append, or-true, or-false, matching-same}
 use Rattle.machine.proofs.Table.{Inside, inside-putCell, cell-word, free-word, cell-other, capacity-putCell, past-putCell, room, word-same, word-other, length-putWord, length-putEnds, length-putCell, capacity-putWord, capacity-putEnds, firstFree-putEnds, lastFree-putEnds, word-putEnds, past-putWord, past-putEnds}
 use Rattle.machine.proofs.Moves.{length-move, capacity-move, firstFree-move, lastFree-move, past-move, word-move, count-move}
-use Rattle.machine.proofs.Lists.{contains-cons, lastOf-snoc, last-occurs, Places}
+use Rattle.machine.proofs.Lists.{contains-cons, lastOf-snoc, last-occurs, Indices}
 
 -- two tables alike but for the cell counts
 pub record SameButCounts (t t′ : List ℕ) : Type 0 where
@@ -278,7 +278,7 @@ module _ (t u v : List ℕ) (i : ℕ) (dead : List ℕ) (j : Joins t i u) (a : J
           rw append-snoc at (a .joined (is ++ (i ∷ [])) (n .0) (n .1)
           (λ x. omega (arith, once x, occurrences-append x is (i ∷ []), occurrences-cons x i dead, occurrences-cons x i [], occurrences-nil x)))
 
-joins-all : (t : List ℕ) (dead : List ℕ) → tableLength (capacity t) ≤ length t → Places (capacity t) dead → lastFree t ≤ capacity t → JoinsAll t dead (joinAll t dead)
+joins-all : (t : List ℕ) (dead : List ℕ) → tableLength (capacity t) ≤ length t → Indices (capacity t) dead → lastFree t ≤ capacity t → JoinsAll t dead (joinAll t dead)
 unfolding joinAll
 joins-all t [] f p b = record {
   sameLength = refl;
@@ -301,7 +301,7 @@ linked-alike t u s w (i ∷ is) h =
     (h .0, rw (s .sameCapacity) (h .1), rw (s .sameWords i left (omega arith) (omega arith)) (linked-alike t u s (wordAt t i left) is (h .2)))
 
 -- the sweep's meaning
-pub sweeps : (t : List ℕ) (dead : List ℕ) → tableLength (capacity t) ≤ length t → Places (capacity t) dead → lastFree t ≤ capacity t → Sweep t dead (swept t dead)
+pub sweeps : (t : List ℕ) (dead : List ℕ) → tableLength (capacity t) ≤ length t → Indices (capacity t) dead → lastFree t ≤ capacity t → Sweep t dead (swept t dead)
 unfolding swept
 sweeps t dead f p b =
     let u = lowerPointers t dead in

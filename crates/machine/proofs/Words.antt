@@ -9,9 +9,9 @@ use Rattle.machine.specs.Words.{isCell}
 use Rattle.machine.proofs.Range.{and-both, and-first, and-second}
 
 -- a cell of c cells is the number of an index below c
-pub cell-place : (c w : ℕ) → isCell c w ≡ true → pred w < c
+pub cell-index : (c w : ℕ) → isCell c w ≡ true → pred w < c
 unfolding isCell
-cell-place c w h =
+cell-index c w h =
     let l : 1 ≤ w = leb-true 1 w (and-first (leb 1 w) (leb w c) h) in
     let m : w ≤ c = leb-true w c (and-second (leb 1 w) (leb w c) h) in
     omega arith
@@ -22,6 +22,6 @@ cell-number c w h =
     let l : 1 ≤ w = leb-true 1 w (and-first (leb 1 w) (leb w c) h) in
     omega arith
 
-pub place-cell : (c i : ℕ) → i < c → isCell c (suc i) ≡ true
+pub index-cell : (c i : ℕ) → i < c → isCell c (suc i) ≡ true
 unfolding isCell
-place-cell c i h = and-both (le-leb 1 (suc i) (omega arith)) (le-leb (suc i) c h)
+index-cell c i h = and-both (le-leb 1 (suc i) (omega arith)) (le-leb (suc i) c h)

@@ -15,7 +15,7 @@ use Rattle.machine.specs.Table.{left, right, capacity, scratchWords, wordAt}
 use Rattle.machine.specs.Queue.{Packet}
 use Rattle.machine.specs.Reached.{isRoot, pointsTo, ReachedBy, begun, onward, spread, marks, reachedBy, reached}
 use Rattle.machine.proofs.Range.{tested, not-both, or-true, or-left, or-right}
-use Rattle.machine.proofs.Words.{cell-place, cell-number, place-cell}
+use Rattle.machine.proofs.Words.{cell-index, cell-number, index-cell}
 use Rattle.machine.proofs.Reached.{computed, computes}
 use Rattle.marks.specs.Marks.{isMarked, Marks}
 use Rattle.marks.specs.Stack.{Stack, pushed, visited, Threaded, Followable, Follows}
@@ -51,7 +51,7 @@ module _ (c : ℕ) (start : ℕ → Bool) (t : List ℕ) where
         here : (i : ℕ) → i < c → w ≡ suc i → Got i
         here i l e =
             let p : pred w ≡ i = ap pred e in
-            rw p at (r (rw e (place-cell c i l)))
+            rw p at (r (rw e (index-cell c i l)))
 
     met-word : (j : ℕ) → j < c → w ≡ suc j → met (pushed c w st) j ≡ true
     met-word j l e = met-pushed c w st (h .threaded .enough) j l ∙ or-right (met st j) (eq-eqb w (suc j) e)
@@ -84,13 +84,13 @@ module _ (c : ℕ) (start : ℕ → Bool) (t : List ℕ) where
 
     got-left : isCell c (wordAt t p left) ≡ true → Got (pred (wordAt t p left))
     got-left e =
-        onward got (cell-place c (wordAt t p left) e)
+        onward got (cell-index c (wordAt t p left) e)
         (unfold pointsTo in or-left (eqb (wordAt t p right) (suc (pred (wordAt t p left))))
         (eq-eqb (wordAt t p left) (suc (pred (wordAt t p left))) (cell-number c (wordAt t p left) e)))
 
     got-right : isCell c (wordAt t p right) ≡ true → Got (pred (wordAt t p right))
     got-right e =
-        onward got (cell-place c (wordAt t p right) e)
+        onward got (cell-index c (wordAt t p right) e)
         (unfold pointsTo in or-right (eqb (wordAt t p left) (suc (pred (wordAt t p right))))
         (eq-eqb (wordAt t p right) (suc (pred (wordAt t p right))) (cell-number c (wordAt t p right) e)))
 

@@ -16,7 +16,7 @@ use Rattle.machine.specs.Packets.{contains, names, isNamed}
 use Rattle.machine.specs.Reached.{isRoot}
 use Rattle.machine.specs.Step.{cleared}
 use Rattle.machine.proofs.Range.{tested, lt-or-ge, not-both, or-right}
-use Rattle.machine.proofs.Words.{place-cell}
+use Rattle.machine.proofs.Words.{index-cell}
 use Rattle.machine.proofs.Scratch.{length-cleared, cleared-zero, past-cleared}
 use Rattle.marks.specs.Names.{threeNames}
 use Rattle.marks.specs.Marks.{isMarked}
@@ -41,7 +41,7 @@ module _ (c w : ℕ) (st : Stack) (h : scratchWords c ≤ length (st .words)) (i
   met-before f e = ⊎-elim (λ z. lt-ltb 0 (getD (st .words) i 0) z) (λ z. absurd (not-both (new z) f)) (lt-or-ge 0 (getD (st .words) i 0))
     where
       new : getD (st .words) i 0 ≤ 0 → isCell c w && eqb (getD (st .words) (pred w) 0) 0 ≡ true
-      new z = rw (e, place-cell c i l, eq-eqb (getD (st .words) i 0) 0 (omega arith))
+      new z = rw (e, index-cell c i l, eq-eqb (getD (st .words) i 0) 0 (omega arith))
 
   pub met-pushed : met (pushed c w st) i ≡ met st i || eqb w (suc i)
   unfolding isMarked

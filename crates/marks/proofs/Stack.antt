@@ -15,7 +15,7 @@ use Rattle.machine.specs.Words.{isCell, mostCells}
 use Rattle.machine.specs.Table.{tableLength, scratchWords}
 use Rattle.machine.specs.Packets.{contains}
 use Rattle.machine.proofs.Range.{tested, lt-or-ge, not-both, or-true, or-left, or-right, or-false, and-first, and-second, total-at}
-use Rattle.machine.proofs.Words.{cell-place, cell-number}
+use Rattle.machine.proofs.Words.{cell-index, cell-number}
 use Rattle.machine.proofs.Lists.{contains-cons}
 use Rattle.marks.specs.Stack.{Stack, stack, unmet, pushed, Chained, Threaded, Visitable}
 use Rattle.marks.proofs.Scratch.{cell-word, word-within}
@@ -33,7 +33,7 @@ unmet-is c w s h =
     let i = and-first (isCell c w) (eqb (getD s (pred w) 0) 0) h in
     record {
       cell = i;
-      index = cell-place c w i;
+      index = cell-index c w i;
       number = cell-number c w i;
       zero = eqb-true (getD s (pred w) 0) 0 (and-second (isCell c w) (eqb (getD s (pred w) 0) 0) h);
     }

@@ -17,7 +17,7 @@ use Rattle.machine.specs.Reached.{isRoot, pointsTo, begun, Reached}
 use Rattle.machine.specs.Audit.{replays, wordsOfKind, packetLegal}
 use Rattle.machine.specs.Facts.{Linked, Chain}
 use Rattle.machine.proofs.Range.{tested, or-left, and-both, not-both, matching-same, matching-other}
-use Rattle.machine.proofs.Words.{place-cell}
+use Rattle.machine.proofs.Words.{index-cell}
 use Rattle.machine.proofs.Table.{Inside, room, cell-word, cell-other, word-putEnds, length-putEnds, length-putCell, capacity-putEnds, capacity-putCell, firstFree-putEnds, firstFree-putCell, lastFree-putEnds, lastFree-putCell, free-not-in-use, not-in-use-free}
 use Rattle.soundness.proofs.Views.{shown, Same, putView, put-same, put-other}
 use Rattle.soundness.proofs.LegalPackets.{Fit, fit-grows, cell-legal, names-three, LegalPacket}
@@ -191,7 +191,7 @@ module _ (t : List ℕ) (ps : List Packet) (f : Facts t ps) (new : ℕ) (rest : 
 
     new-fit : Fit u (suc new)
     new-fit = record {
-      legal = rw same-capacity (cell-legal (capacity t) (suc new) (place-cell (capacity t) new below));
+      legal = rw same-capacity (cell-legal (capacity t) (suc new) (index-cell (capacity t) new below));
       used = λ i l e. ap (inUse u) (let d : i ≡ new = omega arith in d) ∙ new-used;
     }
 
@@ -221,7 +221,7 @@ module _ (t : List ℕ) (ps : List Packet) (f : Facts t ps) (new : ℕ) (rest : 
         let gx = grows x x-fit in
         let gy = grows y y-fit in
         record {
-          words = and-both (and-both (gx .legal) (gy .legal)) (rw same-capacity (place-cell (capacity t) new below));
+          words = and-both (and-both (gx .legal) (gy .legal)) (rw same-capacity (index-cell (capacity t) new below));
           names = names-three (Fit u) x y (suc new) gx gy new-fit;
         }
 

@@ -20,8 +20,8 @@ use Rattle.machine.specs.Audit.{fieldSound, cellSound, cellsSound, otherSlotsZe
 use Rattle.machine.specs.Facts.{TableShape, QueueShape, Linked, Chain}
 use Rattle.machine.proofs.Range.{tested, or-true, or-left, or-right, and-both, and-first, and-second, not-both, every-at, every-all}
 use Rattle.machine.proofs.Table.{free-not-in-use, not-in-use-free}
-use Rattle.machine.proofs.Lists.{Places}
-use Rattle.machine.proofs.Chain.{linked-places, chain-is}
+use Rattle.machine.proofs.Lists.{Indices}
+use Rattle.machine.proofs.Chain.{linked-indices, chain-is}
 use Rattle.machine.proofs.Reached.{reached-is}
 use Rattle.machine.proofs.Questions.{shape-is, shape-test}
 use Rattle.soundness.proofs.Views.{shown, seen, seen-same, earlier, All, WrittenBelow, all-map, StagesOf, pointers-seen}
@@ -159,7 +159,7 @@ module _ (t : List ℕ) (q : Queue) (s : Sound t q) where
       (or-true (isFree t i) (reached t (waiting q) i) (every-at (capacity t) (λ j. isFree t j || reached t (waiting q) j) (s .live) i l)))
 
 -- the ends lie within the cells
-last-below : (c : ℕ) (is : List ℕ) → Places c is → lastOf (map suc is) ≤ c
+last-below : (c : ℕ) (is : List ℕ) → Indices c is → lastOf (map suc is) ≤ c
 unfolding lastOf
 last-below c [] p = omega arith
 last-below c (i ∷ []) p = p .0
@@ -173,7 +173,7 @@ first-within t is h = go is (h .linked)
     go (i ∷ is) l = let e = l .0 in let m = l .1 in omega arith
 
 pub last-within : (t : List ℕ) (is : List ℕ) → Chain t is → lastFree t ≤ capacity t
-last-within t is h = rw (← h .ends) (last-below (capacity t) is (linked-places t (firstFree t) is (h .linked)))
+last-within t is h = rw (← h .ends) (last-below (capacity t) is (linked-indices t (firstFree t) is (h .linked)))
 
 -- what is said of the queue alone
 pub record Slots (q : Queue) : Type 0 where

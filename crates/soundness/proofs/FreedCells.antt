@@ -18,10 +18,10 @@ use Rattle.machine.specs.Audit.{packetLegal}
 use Rattle.machine.specs.Facts.{Linked, Chain, pointersOut, Sweep}
 use Rattle.machine.proofs.Range.{tested, lt-or-ge, not-both, or-left, or-right, occurrences-append, total-same}
 use Rattle.machine.proofs.Table.{free-not-in-use}
-use Rattle.machine.proofs.Lists.{at-most-one, last-occurs, Places, none-past}
-use Rattle.machine.proofs.Chain.{linked-places}
+use Rattle.machine.proofs.Lists.{at-most-one, last-occurs, Indices, none-past}
+use Rattle.machine.proofs.Chain.{linked-indices}
 use Rattle.machine.proofs.Reached.{reached-is}
-use Rattle.machine.proofs.Select.{select-places, select-once, dead-is}
+use Rattle.machine.proofs.Select.{select-indices, select-once, dead-is}
 use Rattle.machine.proofs.Sweep.{sweeps}
 use Rattle.soundness.proofs.Views.{nil-no-cell, View, shown, entries, seen, seen-same, seen-none, Same, All, all-map, Detached, earlier, earlier-same, earlier-entries, stages-same}
 use Rattle.soundness.proofs.LegalPackets.{Fit, fit-nil, LegalPacket, WrittenIn, legal-written, legal-detached, written-map}
@@ -65,9 +65,9 @@ module _ (t : List ℕ) (ps : List Packet) (f : Facts t ps) where
   abbrev u : List ℕ
   u = swept t dead
 
-  dead-below : Places c dead
+  dead-below : Indices c dead
   unfolding unreached
-  dead-below = select-places c doomed
+  dead-below = select-indices c doomed
 
   sweep : Sweep t dead u
   sweep = sweeps t dead (f .room) dead-below (last-within t (f .free) (f .chain))
@@ -182,7 +182,7 @@ module _ (t : List ℕ) (ps : List Packet) (f : Facts t ps) where
 
   linked-all : Linked u (firstFree u) (f .free ++ dead) × (lastOf (map suc (f .free ++ dead)) ≡ lastFree u)
   linked-all = sweep .joined (f .free) (f .chain .linked) (f .chain .ends) (λ i. ⊎-elim (λ l. rw (both-once i l) (at-most-one (isFree u i)))
-      (λ l. omega (arith, none-past c (f .free) (linked-places t (firstFree t) (f .free) (f .chain .linked)) i l, none-past c dead dead-below i l)) (lt-or-ge i c))
+      (λ l. omega (arith, none-past c (f .free) (linked-indices t (firstFree t) (f .free) (f .chain .linked)) i l, none-past c dead dead-below i l)) (lt-or-ge i c))
 
   -- a cell that is not reached ends with all but its left 0
   wiped : (i k : ℕ) → i < c → live i ≡ false → right ≤ k → k < stride → wordAt u i k ≡ 0

@@ -14,7 +14,7 @@ use Rattle.machine.specs.Packets.{Kind, reads, makes, replaces, raises, lowers,
 use Rattle.machine.specs.Audit.{fieldSound, wordsOfKind, packetLegal, namesInUse, packetsLegal}
 use Rattle.machine.proofs.Range.{or-true, or-left, or-right, and-both, and-first, and-second}
 use Rattle.machine.proofs.Lists.{everyOf-at, everyOf-all}
-use Rattle.machine.proofs.Words.{cell-place, cell-number}
+use Rattle.machine.proofs.Words.{cell-index, cell-number}
 use Rattle.soundness.proofs.Views.{All, Written, WrittenOf, WrittenBelow, Detached, DetachedOf}
 
 -- nil, an atom, or a cell in use
@@ -57,7 +57,7 @@ fit-field t w f =
     (λ e. or-left (isCell (capacity t) w && inUse t (pred w)) (or-right (isNil w) e)) (or-true (isNil w || isCell (capacity t) w) (isAtom w) (f .legal))
   where
     number : isCell (capacity t) w ≡ true → isNil w || isAtom w || (isCell (capacity t) w && inUse t (pred w)) ≡ true
-    number e = or-right (isNil w || isAtom w) (and-both e (f .used (pred w) (cell-place (capacity t) w e) (cell-number (capacity t) w e)))
+    number e = or-right (isNil w || isAtom w) (and-both e (f .used (pred w) (cell-index (capacity t) w e) (cell-number (capacity t) w e)))
 
 -- cells in use stay so in a table of as many cells
 pub fit-grows : (t u : List ℕ) (w : ℕ) → capacity u ≡ capacity t → ((i : ℕ) → i < capacity t → inUse t i ≡ true → inUse u i ≡ true) → Fit t w → Fit u w
@@ -70,7 +70,7 @@ cell-legal c w h = or-left (isAtom w) (or-right (isNil w) h)
 
 -- a cell that is fit is in use
 pub cell-used : (t : List ℕ) (x : ℕ) → isCell (capacity t) x ≡ true → Fit t x → inUse t (pred x) ≡ true
-cell-used t x h f = f .used (pred x) (cell-place (capacity t) x h) (cell-number (capacity t) x h)
+cell-used t x h f = f .used (pred x) (cell-index (capacity t) x h) (cell-number (capacity t) x h)
 
 -- S3's demands on one packet
 pub record LegalPacket (t : List ℕ) (p : Packet) : Type 0 where
@@ -157,7 +157,7 @@ legal-written t p h = go (kindOf (p .kind)) (p .a) (p .b) (p .c) (kind-field (p 
   where
     at-cell : (c k : ℕ) → k ≤ right → isCell (capacity t) c ≡ true → Fit t c → WrittenIn t (pred c) k
     at-cell c k f e n =
-        record { below = cell-place (capacity t) c e; field = f; used = n .used (pred c) (cell-place (capacity t) c e) (cell-number (capacity t) c e) }
+        record { below = cell-index (capacity t) c e; field = f; used = n .used (pred c) (cell-index (capacity t) c e) (cell-number (capacity t) c e) }
 
     go : (n : Kind) (a b c : ℕ) → FieldOf n → wordsOfKind (capacity t) n a b c ≡ true → ((w : ℕ) → contains (namesOf n a b c) w ≡ true → Fit t w)
         → WrittenOf (WrittenIn t) n c

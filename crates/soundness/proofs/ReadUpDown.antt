@@ -14,7 +14,7 @@ use Rattle.machine.specs.Packets.{Kind, reads, makes, replaces, raises, lowers,
 use Rattle.machine.specs.Questions.{numberInRange}
 use Rattle.machine.specs.Audit.{wordsOfKind, packetLegal}
 use Rattle.machine.proofs.Range.{and-both, and-first, matching-same}
-use Rattle.machine.proofs.Words.{cell-place}
+use Rattle.machine.proofs.Words.{cell-index}
 use Rattle.soundness.proofs.Views.{shown, Same, undoneView, HoldsOf, WrittenOf}
 use Rattle.soundness.proofs.LegalPackets.{Fit, fit-nil, cell-legal, cell-used, names-one, names-three, LegalPacket}
 use Rattle.soundness.proofs.Facts.{Facts, Live}
@@ -77,7 +77,7 @@ module _ (t : List ℕ) (ps : List Packet) (f : Facts t ps) where
           operand-fit t ps f read x (y .held) (cell-legal (capacity t) x cell) (λ i e. unfold uses usesOf kindOf in omega (arith, matching-same x (suc i) 1 e))
 
       word-fit : Fit t (wordAt t (pred x) k)
-      word-fit = f .fields (pred x) k (cell-place (capacity t) x cell) low (cell-used t x cell reader-fit)
+      word-fit = f .fields (pred x) k (cell-index (capacity t) x cell) low (cell-used t x cell reader-fit)
 
       pub read-facts : Facts t (ps ++ (read ∷ []))
       unfolding packetLegal wordsOfKind names namesOf kindOf

@@ -14,7 +14,7 @@ use Rattle.machine.specs.Packets.{replaces, kindOf, namesOf, names, usesOf, use
 use Rattle.machine.specs.Reached.{isRoot, pointsTo, Reached}
 use Rattle.machine.specs.Audit.{wordsOfKind, packetLegal}
 use Rattle.machine.proofs.Range.{tested, and-both, and-first, and-second, not-both, matching-same}
-use Rattle.machine.proofs.Words.{cell-place}
+use Rattle.machine.proofs.Words.{cell-index}
 use Rattle.machine.proofs.Table.{room, word-put, word-other, length-putWord, capacity-putWord, firstFree-putWord, lastFree-putWord}
 use Rattle.soundness.proofs.Views.{shown, Same, putView, put-same}
 use Rattle.soundness.proofs.LegalPackets.{Fit, fit-grows, cell-legal, cell-used, names-three, LegalPacket, WrittenIn, second-of}
@@ -39,7 +39,7 @@ module _ (t : List ℕ) (ps : List Packet) (f : Facts t ps) (n k x y : ℕ) (kin
   u = putWord t (pred x) k y
 
   below : pred x < capacity t
-  below = cell-place (capacity t) x cell
+  below = cell-index (capacity t) x cell
 
   used-as : (z : ℕ) → (x ≡ suc z) ⊎ (y ≡ suc z) → 1 ≤ uses replace (suc z)
   unfolding uses

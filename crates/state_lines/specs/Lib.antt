@@ -1,3 +1,3 @@
-pub mod Places
+pub mod Indices
 pub mod Checksum
 pub mod Replies

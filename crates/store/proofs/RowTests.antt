@@ -19,7 +19,7 @@ use Rattle.machine.specs.Questions.{Question, ask, firstNo, refusedBy, heldEnou
 use Rattle.machine.specs.Audit.{Sound}
 use Rattle.machine.proofs.Range.{tested, not-both, lt-or-ge, or-left, or-right, matching-other}
 use Rattle.machine.proofs.Lists.{everyOf-at, everyOf-all}
-use Rattle.machine.proofs.Words.{cell-place, cell-number, place-cell}
+use Rattle.machine.proofs.Words.{cell-index, cell-number, index-cell}
 use Rattle.machine.proofs.Questions.{Numbered, AllYes, firstNo-append, firstNo-none, firstNo-all, early-numbered}
 use Rattle.soundness.proofs.CodeTests.{pointers-counted, first-free, held-most, pointers-most}
 use Rattle.soundness.proofs.RowQuestions.{held-test}
@@ -75,14 +75,14 @@ raised-is t q s p k = (there, back)
     there h i l m =
         let e : pred (suc i) ≡ i = omega arith in
         let o : test (suc i) ≡ true = everyOf-at (raisedWords k (changes p)) test (suc i) h (raised-contains k (suc i) (changes p) m) in
-        leb-true (up i) (down i) (rw (place-cell (capacity t) i l, e) at o)
+        leb-true (up i) (down i) (rw (index-cell (capacity t) i l, e) at o)
 
     back : ((i : ℕ) → i < capacity t → 0 < movedBy k plus (suc i) (changes p) → up i ≤ down i) → everyOf (raisedWords k (changes p)) test ≡ true
     back f = everyOf-all (raisedWords k (changes p)) test (λ w _. ⊎-elim (λ (e : isCell (capacity t) w ≡ true). inside w e) (λ (e : isCell (capacity t) w ≡ false). rw e) (tested (isCell (capacity t) w)))
       where
         inside : (w : ℕ) → isCell (capacity t) w ≡ true → test w ≡ true
         inside w e =
-            let l = cell-place (capacity t) w e in
+            let l = cell-index (capacity t) w e in
             rw e (le-leb (up (pred w)) (down (pred w)) (⊎-elim (λ m. f (pred w) l m) (λ z. omega (arith, within-before t q s k (pred w) l)) (lt-or-ge 0 (movedBy k plus (suc (pred w)) (changes p)))))
 
 -- question 8: the first free end against the free cells

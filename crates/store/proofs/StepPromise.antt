@@ -20,7 +20,7 @@ use Rattle.machine.specs.Machine.{accepted, machine}
 use Rattle.machine.specs.Answers.{stepReply}
 use Rattle.machine.specs.Promise.{Decided, numbers, Promise}
 use Rattle.machine.proofs.Range.{matching-same, lt-or-ge}
-use Rattle.machine.proofs.Words.{cell-place, cell-number}
+use Rattle.machine.proofs.Words.{cell-index, cell-number}
 use Rattle.machine.proofs.Moves.{length-move, capacity-move, count-move}
 use Rattle.machine.proofs.Ring.{waiting-taken}
 use Rattle.machine.proofs.Questions.{shape-is}
@@ -45,7 +45,7 @@ passes-fit p t (h ∷ hs) f a = (here, passes-fit p u hs (rw (capacity-move t (h
 
     here : isCell (capacity t) (h .word) ≡ true → shifted (h .direction) (wordAt t (pred (h .word)) (counterWord (h .counter))) (h .amount) < 65536
     here c =
-        let l = cell-place (capacity t) (h .word) c in
+        let l = cell-index (capacity t) (h .word) c in
         let e = count-move t (h .counter) (h .word) (h .direction) (h .amount) f (pred (h .word)) l in
         let m = matching-same (h .word) (suc (pred (h .word))) (h .amount) (cell-number (capacity t) (h .word) c) in
         rw (e ∙ ap (shifted (h .direction) (wordAt t (pred (h .word)) (counterWord (h .counter)))) m) at (count-fits p h t u (a .0) (h .counter) (pred (h .word)) l)

@@ -1,7 +1,8 @@
 use mathlib.Core.Path.{refl}
 use native.Mathlib.Omega.{arith}
 use borrow.Author.Needs.{needs}
-use Rattle.collector.proofs.StepContract.{says-yes, says-no, asked-lent, refuses, idles, applies}
+use Rattle.machine.proofs.Questions.{says-yes, says-no, asked-lent}
+use Rattle.collector.proofs.StepContract.{refuses, idles, applies}
 use Rattle.collector.proofs.step.Statement.{statement}
 use Rattle.collector.proofs.step.Tie as tie
 

@@ -3,7 +3,7 @@ use mathlib.Core.Bool.{not}
 use native.Mathlib.Omega.{arith}
 use borrow.Author.Needs.{needs}
 use Rattle.machine.specs.Table.{capacity}
-use Rattle.machine.proofs.Words.{cell-number, cell-place}
+use Rattle.machine.proofs.Words.{cell-number, cell-index}
 use Rattle.audit_cells.proofs.Cells.{cell-asked}
 use Rattle.audit_cells.proofs.FreeChain.{no-cell-not-free, cell-free}
 use Rattle.audit_cells.proofs.chain.is_free_cell.Statement.{statement}
@@ -28,7 +28,7 @@ in-use-requires : tie.Need-in-use-requires
 in-use-requires c κs =
     let i = c .before .before .before .before .args in
     let h = sym (cell-asked (i .table .now) (i .w) (c .before .is-cell .ensures) (c .before .before .capacity-of .ensures)) ∙ c .if1 .taken in
-    let l = cell-place (capacity (i .table .now)) (i .w) h in omega arith
+    let l = cell-index (capacity (i .table .now)) (i .w) h in omega arith
 
 returns : tie.Need-returns
 returns c =

@@ -2,7 +2,7 @@ use mathlib.Core.Path.{sym}
 use native.Mathlib.Omega.{arith}
 use borrow.Author.Needs.{needs}
 use Rattle.machine.specs.Table.{capacity}
-use Rattle.machine.proofs.Words.{cell-number, cell-place}
+use Rattle.machine.proofs.Words.{cell-number, cell-index}
 use Rattle.audit_packets.proofs.ReplayedCounts.{no-cell-replays, cell-replays}
 use Rattle.audit_cells.proofs.Cells.{cell-asked}
 use Rattle.audit_cells.proofs.Tests.{passed, failed}
@@ -40,7 +40,7 @@ root-count-requires c κs =
     let at-capacity = at-cell .before in
     let i = at-capacity .before .before .args in
     let e = cell-asked (i .table .now) (i .x) (at-cell .is-cell .ensures) (at-capacity .capacity-of .ensures) in
-    let l = cell-place (capacity (i .table .now)) (i .x) (passed e (c .if1 .left)) in omega arith
+    let l = cell-index (capacity (i .table .now)) (i .x) (passed e (c .if1 .left)) in omega arith
 
 stage-sound-requires : tie.Need-stage-sound-requires
 stage-sound-requires c κs = search needs

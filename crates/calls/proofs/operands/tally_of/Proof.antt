@@ -6,7 +6,7 @@ use Rattle.machine.specs.Words.{isCell}
 use Rattle.machine.specs.Table.{capacity}
 use Rattle.machine.specs.Queue.{waiting}
 use Rattle.machine.specs.Packets.{root, cell}
-use Rattle.machine.proofs.Words.{cell-place, cell-number}
+use Rattle.machine.proofs.Words.{cell-index, cell-number}
 use Rattle.calls.proofs.EarlyLaws.{cellular}
 use Rattle.calls.proofs.TallyLaws.{counter-tally, counter-other}
 use Rattle.calls.proofs.operands.tally_of.Statement.{statement}
@@ -31,7 +31,7 @@ waiting-changes-requires c κs = search needs
 root-count-requires : tie.Need-root-count-requires
 root-count-requires c κs =
     let table = c .before .before .before .before .before .pre .table in
-    omega (arith, cell-place _ _ (a-cell (c .before)))
+    omega (arith, cell-index _ _ (a-cell (c .before)))
 
 with-requires : tie.Need-with-requires
 with-requires c κs = search needs
@@ -39,7 +39,7 @@ with-requires c κs = search needs
 cell-count-requires : tie.Need-cell-count-requires
 cell-count-requires c κs =
     let table = c .before .before .before .before .before .before .before .pre .table in
-    omega (arith, cell-place _ _ (a-cell (c .before .before .before)))
+    omega (arith, cell-index _ _ (a-cell (c .before .before .before)))
 
 with-requires-2 : tie.Need-with-requires-2
 with-requires-2 c κs = search needs
