@@ -1,3 +1,3 @@
-pub mod Indices
+pub mod Sizes
 pub mod Checksum
 pub mod Replies

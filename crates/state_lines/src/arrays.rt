@@ -1,7 +1,7 @@
 // Arrays that the longest list and its largest store fit in. Behind a call an array is its length alone, which keeps proofs of its parts short.
 ghost use mathlib.Core.Path.{_≡_};
 ghost use lib.ListN.{length};
-ghost use Rattle.state_lines.specs.Indices.{tableWords, scratchWords, lineNumbers};
+ghost use Rattle.state_lines.specs.Sizes.{tableWords, scratchWords, lineNumbers};
 
 pub const INPUT: usize = 2621440;
 

@@ -7,7 +7,7 @@ use crate::runs::expand;
 use machine::Queue;
 ghost use mathlib.Core.Path.{_≡_};
 ghost use Prim.Native.Nat.{_<_, _≤_};
-ghost use Rattle.state_lines.specs.Indices.{Fits};
+ghost use Rattle.state_lines.specs.Sizes.{Fits};
 
 // The queue, and how many words at the front of two arrays are the table and the scratch.
 pub struct Store {

@@ -11,7 +11,7 @@ use state_lines::TABLE;
 ghost use mathlib.Core.Path.{_≡_};
 ghost use Prim.Native.Nat.{_≤_};
 ghost use lib.ListN.{length};
-ghost use Rattle.state_lines.specs.Indices.{Fits};
+ghost use Rattle.state_lines.specs.Sizes.{Fits};
 
 struct Made {
     reply: Reply,

@@ -3,7 +3,7 @@ use Prim.Native.Nat.{_-_, _≤_}
 use lib.Seq.{length-take-le}
 use lib.ListN.{length}
 use borrow.Author.Needs.{needs}
-use Rattle.state_lines.specs.Indices.{Fits, lineNumbers}
+use Rattle.state_lines.specs.Sizes.{Fits, lineNumbers}
 use Rattle.store_cases.proofs.run.Statement.{statement}
 use Rattle.store_cases.proofs.run.Tie as tie
 

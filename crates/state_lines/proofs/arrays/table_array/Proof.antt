@@ -1,7 +1,7 @@
 use mathlib.Core.Path.{sym}
 use Prim.Native.Nat.{ℕ}
 use lib.ListN.{length-replicate}
-use Rattle.state_lines.specs.Indices.{tableWords}
+use Rattle.state_lines.specs.Sizes.{tableWords}
 use Rattle.state_lines.proofs.arrays.table_array.Statement.{statement}
 use Rattle.state_lines.proofs.arrays.table_array.Tie as tie
 
