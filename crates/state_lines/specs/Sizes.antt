@@ -4,15 +4,15 @@ use Rattle.machine.specs.Words.{mostCells}
 use Rattle.machine.specs.Table.{tableLength}
 use Rattle.state_lines.specs.declared.lines.Store.{Store}
 
-abbrev pub tableWords : ℕ
-tableWords = tableLength mostCells + 17
+abbrev pub tableSize : ℕ
+tableSize = tableLength mostCells + 17
 
-abbrev pub scratchWords : ℕ
-scratchWords = mostCells + 4
+abbrev pub scratchSize : ℕ
+scratchSize = mostCells + 4
 
 abbrev pub lineNumbers : ℕ
-lineNumbers = 3 + 2 * tableWords
+lineNumbers = 3 + 2 * tableSize
 
 -- the arrays are long enough
 abbrev pub Fits : Store → Type 0
-Fits s = (s .table ≤ tableWords) × (s .scratch ≤ scratchWords)
+Fits s = (s .table ≤ tableSize) × (s .scratch ≤ scratchSize)

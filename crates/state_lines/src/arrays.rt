@@ -1,7 +1,7 @@
 // Arrays that the longest list and its largest store fit in. Behind a call an array is its length alone, which keeps proofs of its parts short.
 ghost use mathlib.Core.Path.{_≡_};
 ghost use lib.ListN.{length};
-ghost use Rattle.state_lines.specs.Sizes.{tableWords, scratchWords, lineNumbers};
+ghost use Rattle.state_lines.specs.Sizes.{tableSize, scratchSize, lineNumbers};
 
 pub const INPUT: usize = 2621440;
 
@@ -9,7 +9,7 @@ pub const INPUT: usize = 2621440;
 pub const TABLE: usize = cells::MOST_WORDS + 17;
 
 // For the same reason a little more than the longest scratch that is used.
-pub const SCRATCH: usize = (machine::MOST_CELLS as usize) + 4;
+pub const SCRATCH: usize = cells::MOST_SCRATCH + 4;
 
 // A line's letter, the length, the number of runs and a run for each word.
 pub const LINE: usize = 3 + 2 * TABLE;
@@ -21,13 +21,13 @@ pub fn input_array() -> [u8; INPUT]
 }
 
 pub fn table_array() -> [u16; TABLE]
-    ensures { λ r. ⌜ tableWords ≡ length r ⌝ }
+    ensures { λ r. ⌜ tableSize ≡ length r ⌝ }
 {
     [0; TABLE]
 }
 
 pub fn scratch_array() -> [u16; SCRATCH]
-    ensures { λ r. ⌜ scratchWords ≡ length r ⌝ }
+    ensures { λ r. ⌜ scratchSize ≡ length r ⌝ }
 {
     [0; SCRATCH]
 }
