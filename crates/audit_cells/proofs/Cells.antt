@@ -10,7 +10,7 @@ use lib.Dec.{leb}
 use borrow.Author.Tests.{leb-true, le-leb, lt-leb, eq-eqb, ne-eqb}
 use Rattle.machine.specs.Audit.{fieldSound, cellSound, cellsSound}
 use Rattle.machine.specs.Table.{left, right, rootCount, cellCount, state, capacity, wordAt, inUse, isFree}
-use Rattle.machine.specs.Words.{isNil, isCell, isAtom, ceiling}
+use Rattle.machine.specs.Words.{firstAtom, largestWord, isNil, isCell, isAtom, ceiling}
 use Rattle.machine.proofs.Range.{not-both, and-both, and-first, and-second, or-true, or-left, or-right}
 use Rattle.audit_cells.specs.Cells.{countsSound, fieldHolds}
 use Rattle.audit_cells.proofs.Tests.{refuted, and-no-first, and-no-second, every-fails}
@@ -24,19 +24,19 @@ module _ (t : List ℕ) (w : ℕ) where
   unfolding fieldSound isNil
   nil-sound e = rw (eq-eqb w 0 e)
 
-  pub atom-sound : 32768 ≤ w → w ≤ 65535 → fieldSound t w ≡ true
+  pub atom-sound : firstAtom ≤ w → w ≤ largestWord → fieldSound t w ≡ true
   unfolding fieldSound isAtom
-  atom-sound l h = or-left _ (or-right (isNil w) (and-both (le-leb 32768 w l) (le-leb w 65535 h)))
+  atom-sound l h = or-left _ (or-right (isNil w) (and-both (le-leb firstAtom w l) (le-leb w largestWord h)))
 
   -- of a word that is neither nil nor an atom
-  module _ (some : w ≡ 0 → ⊥) (low : w < 32768) where
+  module _ (some : w ≡ 0 → ⊥) (low : w < firstAtom) where
     pub past-unsound : capacity t < w → fieldSound t w ≡ false
     unfolding fieldSound isNil isAtom isCell
-    past-unsound h = rw (ne-eqb w 0 some, lt-leb 32768 w low, lt-leb w (capacity t) h) (and-no-first _ (and-no-second (leb 1 w) refl))
+    past-unsound h = rw (ne-eqb w 0 some, lt-leb firstAtom w low, lt-leb w (capacity t) h) (and-no-first _ (and-no-second (leb 1 w) refl))
 
     pub cell-sound : w ≤ capacity t → inUse t (w - 1) ≡ fieldSound t w
     unfolding fieldSound isNil isAtom isCell
-    cell-sound h = rw (ne-eqb w 0 some, lt-leb 32768 w low, le-leb 1 w (omega arith), le-leb w (capacity t) h, sub-one w)
+    cell-sound h = rw (ne-eqb w 0 some, lt-leb firstAtom w low, le-leb 1 w (omega arith), le-leb w (capacity t) h, sub-one w)
 
 module _ (t : List ℕ) (i : ℕ) where
   pub counts-facts : countsSound t i ≡ true → (wordAt t i state ≤ 1) × (wordAt t i rootCount ≤ ceiling) × (wordAt t i cellCount ≤ ceiling)

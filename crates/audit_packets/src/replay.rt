@@ -12,7 +12,8 @@ ghost use Prim.Native.Nat.{_<_, _≤_};
 ghost use Rattle.machine.specs.Queue.{slots};
 ghost use Rattle.machine.specs.Packets.{uses};
 ghost use Rattle.machine.specs.Audit.{cellsSound};
-ghost use Rattle.queue.specs.Sums.{largestWord, packetOf};
+ghost use Rattle.machine.specs.Words.{largestWord};
+ghost use Rattle.queue.specs.Sums.{packetOf};
 ghost use Rattle.machine.specs.Facts.{TableShape, Shape};
 ghost use Rattle.audit_packets.specs.Packets.{packetOn, oldest, HeldAfter, stageSound, wordReplays, packetReplays, replaysAll};
 

@@ -14,7 +14,7 @@ use Rattle.machine.specs.Packets.{Kind, reads, makes, replaces, raises, lowers,
 use Rattle.machine.specs.Queue.{Packet, slots, slot, packetsFrom, waiting}
 use Rattle.machine.specs.Range.{everyOf}
 use Rattle.machine.specs.Table.{left, right, state, capacity, tableLength, wordAt, putWord, inUse}
-use Rattle.machine.specs.Words.{isNil, isCell, isAtom, isLegal, mostCells}
+use Rattle.machine.specs.Words.{firstAtom, largestWord, isNil, isCell, isAtom, isLegal, mostCells}
 use Rattle.machine.proofs.Range.{and-first, and-second, or-true, every-at}
 use Rattle.machine.proofs.Table.{Inside, room, word-put, word-other, length-putWord, capacity-putWord, inside-put}
 use Rattle.machine.proofs.Words.{cell-index, cell-number}
@@ -46,10 +46,10 @@ cell-used t w m c h =
     let l = cell-index (capacity t) w c in
     ⊎-elim
     (λ k. ⊎-elim (λ (e : eqb w 0 ≡ true). absurd (omega (arith, eqb-true w 0 e)))
-    (λ (e : leb 32768 w && leb w 65535 ≡ true). absurd (omega (arith, leb-true 32768 w (and-first (leb 32768 w) (leb w 65535) e))))
-    (or-true (eqb w 0) (leb 32768 w && leb w 65535) k))
+    (λ (e : leb firstAtom w && leb w largestWord ≡ true). absurd (omega (arith, leb-true firstAtom w (and-first (leb firstAtom w) (leb w largestWord) e))))
+    (or-true (eqb w 0) (leb firstAtom w && leb w largestWord) k))
     (λ k. and-second (isCell (capacity t) w) (inUse t (pred w)) k)
-    (or-true (eqb w 0 || (leb 32768 w && leb w 65535)) (isCell (capacity t) w && inUse t (pred w)) h)
+    (or-true (eqb w 0 || (leb firstAtom w && leb w largestWord)) (isCell (capacity t) w && inUse t (pred w)) h)
 
 third-name : (p : ℕ → Bool) (a b c : ℕ) → everyOf (a ∷ b ∷ c ∷ []) p ≡ true → p c ≡ true
 unfolding everyOf

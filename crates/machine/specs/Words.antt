@@ -10,8 +10,15 @@ isNil w = eqb w 0
 unfoldable pub isCell : ℕ → ℕ → Bool
 isCell c w = leb 1 w && leb w c
 
+-- the first atom, and the largest word of 16 bits
+abbrev pub firstAtom : ℕ
+firstAtom = 32768
+
+abbrev pub largestWord : ℕ
+largestWord = 65535
+
 unfoldable pub isAtom : ℕ → Bool
-isAtom w = leb 32768 w && leb w 65535
+isAtom w = leb firstAtom w && leb w largestWord
 
 unfoldable pub isLegal : ℕ → ℕ → Bool
 isLegal c w = isNil w || isCell c w || isAtom w

@@ -74,7 +74,7 @@ pub(crate) fn push_named(queue: Queue, scratch: &mut [u16], c: u16, first: u16) 
     let mut top = first;
     let mut i: u16 = 0;
     while i < count {
-        let j = ((place + i) % Queue::SLOTS) as usize;
+        let j = queue::slot_after(place, i);
         top = push_names(
             scratch,
             c,

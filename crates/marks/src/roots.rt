@@ -62,7 +62,7 @@ fn named(queue: Queue, w: u16) -> bool
     let mut found = false;
     let mut i: u16 = 0;
     while i < count {
-        let j = ((place + i) % Queue::SLOTS) as usize;
+        let j = queue::slot_after(place, i);
         found = or_named(found, queue.kinds[j], queue.a[j], queue.b[j], queue.c[j], w);
         i += 1;
     }

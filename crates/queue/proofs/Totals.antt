@@ -9,8 +9,9 @@ use Rattle.machine.specs.Queue.{Packet, slots, slot, packetsFrom}
 use Rattle.machine.specs.Packets.{Counter, root, cell, Direction, plus, minus, Kind, unknown, kindOf, changesOf, changes, movedBy, waitingChange}
 use Rattle.machine.proofs.Ring.{packets-snoc}
 use Rattle.machine.proofs.Lists.{waiting-snoc}
+use Rattle.machine.specs.Words.{largestWord}
 use Rattle.queue.specs.declared.Sums.{Sums}
-use Rattle.queue.specs.Sums.{largestWord, CounterSums, SumsOf, AtMost, CounterAdded, Added}
+use Rattle.queue.specs.Sums.{CounterSums, SumsOf, AtMost, CounterAdded, Added}
 
 -- one packet's changes of the counter c, by its kind
 abbrev Moved : Counter → Kind → ℕ → ℕ → ℕ → ℕ → ℕ → ℕ → ℕ → Type 0

@@ -4,7 +4,7 @@ use mathlib.Core.Bool.{Bool}
 use mathlib.Core.List.{List}
 use Prim.Native.Nat.{ℕ, suc, _+_, _*_, _≤_}
 use lib.Dec.{leb}
-use Rattle.machine.specs.Words.{ceiling}
+use Rattle.machine.specs.Words.{largestWord, ceiling}
 use Rattle.machine.specs.Queue.{Packet, packet, slots}
 use Rattle.machine.specs.Packets.{Counter, root, cell, plus, minus, kindOf, changesOf, movedBy, waitingChange}
 use Rattle.queue.specs.declared.Packet
@@ -13,10 +13,6 @@ use Rattle.queue.specs.declared.Sums.{Sums}
 -- the machine's packet
 abbrev pub packetOf : Rattle.queue.specs.declared.Packet.Packet → Packet
 packetOf p = packet (p .kind) (p .a) (p .b) (p .c)
-
--- the largest word of 16 bits
-abbrev pub largestWord : ℕ
-largestWord = 65535
 
 -- r and l: by how much the packets ps raise and lower the counter k of the cell x
 pub record CounterSums (k : Counter) (ps : List Packet) (x r l : ℕ) : Type 0 where

@@ -6,7 +6,8 @@ ghost use mathlib.Core.Path.{_≡_};
 ghost use Prim.Native.Nat.{suc, _+_, _%_, _<_, _≤_};
 ghost use Rattle.machine.specs.Range.{matching};
 ghost use Rattle.machine.specs.Queue.{packet, slots, slot, appended, taken, waiting};
-ghost use Rattle.queue.specs.Sums.{largestWord, packetOf, AtMost, WithCount, atLeast, atMostCeiling, Bounded, Added, SumsOf};
+ghost use Rattle.machine.specs.Words.{largestWord};
+ghost use Rattle.queue.specs.Sums.{packetOf, AtMost, WithCount, atLeast, atMostCeiling, Bounded, Added, SumsOf};
 
 // What a slot holds.
 pub struct Packet {

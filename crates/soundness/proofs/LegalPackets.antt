@@ -7,7 +7,7 @@ use Prim.Native.Nat.{ℕ, suc, pred, _≤_, _<_}
 use native.Mathlib.Omega.{arith}
 use lib.Dec.{eqb, leb}
 use borrow.Author.Tests.{eqb-true, eq-eqb, leb-true}
-use Rattle.machine.specs.Words.{isNil, isCell, isAtom, isLegal, mostCells}
+use Rattle.machine.specs.Words.{firstAtom, largestWord, isNil, isCell, isAtom, isLegal, mostCells}
 use Rattle.machine.specs.Table.{left, right, capacity, inUse}
 use Rattle.machine.specs.Queue.{Packet}
 use Rattle.machine.specs.Packets.{Kind, reads, makes, replaces, raises, lowers, unknown, kindOf, namesOf, names, contains, isNamed}
@@ -29,7 +29,7 @@ fit-nil t = record { legal = or-left (isAtom 0) (or-left (isCell (capacity t) 0)
 -- C is below every atom
 atom-no-cell : (c w : ℕ) → c ≤ mostCells → isAtom w ≡ true → (i : ℕ) → i < c → w ≡ suc i → ⊥
 unfolding isAtom
-atom-no-cell c w m h i l e = omega (arith, leb-true 32768 w (and-first (leb 32768 w) (leb w 65535) h))
+atom-no-cell c w m h i l e = omega (arith, leb-true firstAtom w (and-first (leb firstAtom w) (leb w largestWord) h))
 
 pub field-fit : (t : List ℕ) (w : ℕ) → capacity t ≤ mostCells → fieldSound t w ≡ true → Fit t w
 unfolding fieldSound isLegal

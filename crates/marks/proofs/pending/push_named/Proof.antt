@@ -25,11 +25,8 @@ loop-holds c = let s = c .before in
     let q = s .args .t1 in
     (omega arith, s .pre .0 .count, s .pre .0 .place, refl, named-start (s .args .c) q (q .place) (stack (s .args .scratch .now) (s .args .first)) (s .pre .3))
 
-add-j : tie.Need-add-j Inv-loop μ-loop
-add-j c = search needs
-
-cast-j : tie.Need-cast-j Inv-loop μ-loop
-cast-j c = search needs
+slot-after-requires : tie.Need-slot-after-requires Inv-loop μ-loop
+slot-after-requires c κs = search needs
 
 mul-push-names : tie.Need-mul-push-names Inv-loop μ-loop
 mul-push-names c = search needs
@@ -67,17 +64,19 @@ loop-less c = search needs
 loop-again : tie.Need-loop-again Inv-loop μ-loop
 unfolding slot
 loop-again c =
-    let at-loop = c .before .before .before .before .before .before .before .before .before in
+    let at-slot-after = c .before .before .before .before .before .before .before .before in
+    let at-loop = at-slot-after .before .before in
     let s = at-loop .before .before in
     let l = at-loop .loop in
     let q = s .args .t1 in
-    let v = l .inv in (
+    let v = l .inv in
+    let pushed = rw (at-slot-after .slot-after .ensures .0) at (c .before .before .push-names .ensures) in (
       omega arith,
       v .1,
       v .2,
       omega arith,
       named-push (s .args .c) q (q .place) (l .i) (stack (s .args .scratch .now) (s .args .first)) (stack (l .scratch) (l .top)) _ (v .4)
-          (c .before .before .push-names .ensures),
+          pushed,
     )
 
 same-length : tie.Need-same-length Inv-loop μ-loop
@@ -98,8 +97,7 @@ push-named-spec =
     Inv-loop
     μ-loop
     loop-holds
-    add-j
-    cast-j
+    slot-after-requires
     mul-push-names
     element-copy-out-push-names
     mul-push-names-2

@@ -19,11 +19,8 @@ abbrev μ-loop : tie.MeasureT-loop
 loop-holds : tie.Need-loop-holds Inv-loop μ-loop
 loop-holds c = (omega arith, c .pre .0 .count, c .pre .0 .place, c .pre .1, named-none (c .args .t1) (c .args .t1 .place) (c .args .w))
 
-add-j : tie.Need-add-j Inv-loop μ-loop
-add-j c = search needs
-
-cast-j : tie.Need-cast-j Inv-loop μ-loop
-cast-j c = search needs
+slot-after-requires : tie.Need-slot-after-requires Inv-loop μ-loop
+slot-after-requires c κs = search needs
 
 mul-or-named : tie.Need-mul-or-named Inv-loop μ-loop
 mul-or-named c = search needs
@@ -61,12 +58,14 @@ loop-less c = search needs
 loop-again : tie.Need-loop-again Inv-loop μ-loop
 unfolding slot threeNames
 loop-again c =
-    let at-loop = c .before .before .before .before .before .before in
+    let at-slot-after = c .before .before .before .before .before in
+    let at-loop = at-slot-after .before .before in
     let start = at-loop .before in
     let l = at-loop .loop in
     let q = start .args .t1 in
     let v = l .inv in
-    (omega arith, v .1, v .2, v .3, named-more q (q .place) (l .i) (start .args .w) (l .found) _ (v .3) (v .4) (c .or-named .ensures))
+    let found = rw (at-slot-after .slot-after .ensures .0) at (c .or-named .ensures) in
+    (omega arith, v .1, v .2, v .3, named-more q (q .place) (l .i) (start .args .w) (l .found) _ (v .3) (v .4) found)
 
 returns : tie.Need-returns Inv-loop μ-loop
 unfolding waiting
@@ -83,8 +82,7 @@ named-spec =
     Inv-loop
     μ-loop
     loop-holds
-    add-j
-    cast-j
+    slot-after-requires
     mul-or-named
     element-copy-out-or-named
     mul-or-named-2
