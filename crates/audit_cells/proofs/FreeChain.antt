@@ -224,7 +224,7 @@ laid-needed t h =
 -- what the code tests
 module _ (t : List ℕ) (i : ℕ) where
   pub laid-last : wordAt t i right ≡ 0 → wordAt t i rootCount ≡ 0 → wordAt t i cellCount ≡ 0 → eqb (wordAt t i state) 0 ≡ laidOut t i
-  unfolding laidOut
+  unfolding laidOut every
   laid-last r n m = rw (r, n, m)
 
   pub used-passes : inUse t i ≡ true → freeOrUsed t i ≡ true

@@ -17,7 +17,7 @@ use Rattle.machine.specs.Audit.{walk, freeChain, laidOut, metOnce, chain
 use Rattle.machine.specs.Facts.{Linked, Chain}
 use Rattle.machine.proofs.Range.{tested, or-left, or-right, and-both, and-first, and-second, every-at, every-all, total-le, total-add, total-ones, total-zero, total-one}
 use Rattle.machine.proofs.Lists.{at-most-one, Indices}
-use Rattle.machine.proofs.Table.{each-word, free-not-in-use, not-in-use-free}
+use Rattle.machine.proofs.Table.{free-not-in-use, not-in-use-free}
 use Rattle.machine.proofs.Words.{cell-index, cell-number, index-cell}
 
 -- indices as numbers
@@ -95,26 +95,14 @@ numbers-cells c (i ∷ is) p = and-both (index-cell c i (p .0)) (numbers-cells c
 
 pub laid-wiped : (t : List ℕ) (i : ℕ) → laidOut t i ≡ true → (k : ℕ) → right ≤ k → k < stride → wordAt t i k ≡ 0
 unfolding laidOut
-laid-wiped t i h =
-    let first = eqb (wordAt t i right) 0 in
-    let second = first && eqb (wordAt t i rootCount) 0 in
-    let third = second && eqb (wordAt t i cellCount) 0 in
-    let e₃ = and-first third (eqb (wordAt t i state) 0) h in
-    let e₂ = and-first second (eqb (wordAt t i cellCount) 0) e₃ in
-    λ k low high. each-word (λ n. right ≤ n → wordAt t i n ≡ 0) (λ z. absurd (not-suc-le-zero z))
-    (λ _. eqb-true (wordAt t i right) 0 (and-first first (eqb (wordAt t i rootCount) 0) e₂))
-    (λ _. eqb-true (wordAt t i rootCount) 0 (and-second first (eqb (wordAt t i rootCount) 0) e₂))
-    (λ _. eqb-true (wordAt t i cellCount) 0 (and-second second (eqb (wordAt t i cellCount) 0) e₃))
-    (λ _. eqb-true (wordAt t i state) 0 (and-second third (eqb (wordAt t i state) 0) h))
-    k (omega arith) low
+laid-wiped t i h zero low high = absurd (not-suc-le-zero low)
+laid-wiped t i h (suc k) low high =
+    eqb-true (wordAt t i (suc k)) 0 (every-at (pred stride) (λ (n : ℕ). eqb (wordAt t i (suc n)) 0) h k (omega arith))
 
 wiped-laid : (t : List ℕ) (i : ℕ) → ((k : ℕ) → right ≤ k → k < stride → wordAt t i k ≡ 0) → laidOut t i ≡ true
 unfolding laidOut
 wiped-laid t i f =
-    and-both (and-both (and-both (eq-eqb (wordAt t i right) 0 (f right (omega arith) (omega arith)))
-    (eq-eqb (wordAt t i rootCount) 0 (f rootCount (omega arith) (omega arith))))
-    (eq-eqb (wordAt t i cellCount) 0 (f cellCount (omega arith) (omega arith))))
-    (eq-eqb (wordAt t i state) 0 (f state (omega arith) (omega arith)))
+    every-all (pred stride) (λ (n : ℕ). eqb (wordAt t i (suc n)) 0) (λ k l. eq-eqb (wordAt t i (suc k)) 0 (f (suc k) (omega arith) (omega arith)))
 
 module _ (t : List ℕ) (h : chainSound t ≡ true) where
   abbrev met : List ℕ

@@ -1,6 +1,6 @@
 -- Laws of the table: lengths, and what is read after a write, one law for every pair of index and word.
 use mathlib.Core.Path.{_≡_, refl, ap, _∙_}
-use mathlib.Core.Logic.{⊎-elim}
+use mathlib.Core.Logic.{_≢_, ⊎-elim}
 use mathlib.Core.Bool.{true, false, cond, _&&_}
 use mathlib.Core.List.{List, [], _∷_}
 use Prim.Native.Nat.{ℕ, zero, suc, pred, _+_, _*_, _≤_, _<_}
@@ -16,14 +16,12 @@ use Rattle.machine.proofs.Range.{tested}
 pub Inside : List ℕ → ℕ → Type 0
 Inside t i = tableLength (suc i) ≤ length t
 
--- what holds of each word of a cell
-pub each-word : (P : ℕ → Type 0) → P left → P right → P rootCount → P cellCount → P state → (k : ℕ) → k < stride → P k
-each-word P a b c d e zero l = a
-each-word P a b c d e (suc zero) l = b
-each-word P a b c d e (suc (suc zero)) l = c
-each-word P a b c d e (suc (suc (suc zero))) l = d
-each-word P a b c d e (suc (suc (suc (suc zero)))) l = e
-each-word P a b c d e (suc (suc (suc (suc (suc k))))) l = absurd (omega arith)
+-- what holds of both counts, and of every other word of a cell
+pub each-word : (P : ℕ → Type 0) → P rootCount → P cellCount → ((k : ℕ) → k ≢ rootCount → k ≢ cellCount → P k) → (k : ℕ) → P k
+each-word P r c f k =
+    ⊎-elim (λ (e : eqb k rootCount ≡ true). rw (eqb-true k rootCount e) r)
+    (λ e. ⊎-elim (λ (d : eqb k cellCount ≡ true). rw (eqb-true k cellCount d) c) (λ d. f k (eqb-false k rootCount e) (eqb-false k cellCount d)) (tested (eqb k cellCount)))
+    (tested (eqb k rootCount))
 
 -- lengths
 pub length-putWord : (t : List ℕ) (i k v : ℕ) → length (putWord t i k v) ≡ length t

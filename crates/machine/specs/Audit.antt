@@ -7,7 +7,7 @@ use lib.Dec.{leb, eqb}
 use Rattle.machine.specs.declared.Queue.{Queue}
 use Rattle.machine.specs.Range.{every, everyOf, occurrences, lastOf}
 use Rattle.machine.specs.Words.{isNil, isCell, isAtom, isLegal, ceiling}
-use Rattle.machine.specs.Table.{left, right, rootCount, cellCount, state, capacity, firstFree, lastFree, scratchWords, wordAt, putWord, inUse, isFree}
+use Rattle.machine.specs.Table.{stride, left, right, rootCount, cellCount, state, capacity, firstFree, lastFree, scratchWords, wordAt, putWord, inUse, isFree}
 use Rattle.machine.specs.Queue.{Packet, slots, slot, waiting}
 use Rattle.machine.specs.Packets.{Kind, reads, makes, replaces, raises, lowers, unknown, kindOf, root, plus, minus, changes, movedBy, names, uses}
 use Rattle.machine.specs.Counts.{pointers}
@@ -40,8 +40,9 @@ walk t (suc n) w = cond (eqb w 0) [] (w ∷ walk t n (field t w left))
 unfoldable pub freeChain : List ℕ → List ℕ
 freeChain t = walk t (suc (capacity t)) (firstFree t)
 
+-- all words of a free cell behind its left are 0
 unfoldable pub laidOut : List ℕ → ℕ → Bool
-laidOut t i = eqb (wordAt t i right) 0 && eqb (wordAt t i rootCount) 0 && eqb (wordAt t i cellCount) 0 && eqb (wordAt t i state) 0
+laidOut t i = every (pred stride) (λ k. eqb (wordAt t i (suc k)) 0)
 
 unfoldable pub metOnce : List ℕ → List ℕ → ℕ → Bool
 metOnce t met i = eqb (occurrences (suc i) met) (cond (isFree t i) 1 0)

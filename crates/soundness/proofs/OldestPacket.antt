@@ -79,9 +79,8 @@ module _ (t : List ℕ) (p : Packet) (ps : List Packet) (f : Facts t (p ∷ ps))
       let s = free-still i l u in
       let r = count-applied t (changes p) root i (f .room) l ∙ running-root p (suc i) (wordAt t i rootCount) (omega (arith, s .still root minus)) in
       let c = count-applied t (changes p) cell i (f .room) l ∙ running-cell p (suc i) (wordAt t i cellCount) in
-      each-word (λ n. wordAt applied i n ≡ wordAt t i n) (applied-fields i left (omega arith)) (applied-fields i right (omega arith))
-      (omega (arith, s .still root plus, s .still root minus)) (omega (arith, s .still cell plus, s .still cell minus))
-      (stands i state (omega arith) (omega arith) (omega arith)) k m
+      each-word (λ n. n < stride → wordAt applied i n ≡ wordAt t i n) (λ _. omega (arith, s .still root plus, s .still root minus))
+      (λ _. omega (arith, s .still cell plus, s .still cell minus)) (λ n a b d. stands i n d a b) k m
 
   applied-shown : Same (capacity t) (shown applied) (shown t)
   unfolding shown
