@@ -5,6 +5,7 @@ use mathlib.Core.List.{List, [], _∷_, _++_}
 use Prim.Native.Nat.{ℕ}
 use lib.ListN.{replicate}
 use Rattle.machine.specs.declared.Queue.{Queue}
+use Rattle.machine.specs.Table.{tableLength}
 use Rattle.machine.specs.Queue.{packet, emptyQueue, appended}
 use Rattle.machine.specs.Packets.{changes}
 use Rattle.machine.specs.Calls.{Call, fresh, row, step, audit, car, cdr, cons, setLeft, setRight, up, down}
@@ -14,7 +15,7 @@ use Rattle.machine.specs.Machine.{run, replies}
 
 -- a store before its first fresh, its table long enough for three cells, and a used scratch of four words
 abbrev pub unmade : Store
-unmade = store (replicate 18 0) emptyQueue (7 ∷ 7 ∷ 7 ∷ 9 ∷ [])
+unmade = store (replicate (tableLength 3) 0) emptyQueue (7 ∷ 7 ∷ 7 ∷ 9 ∷ [])
 
 -- calls and the replies they get, from a store
 pub record Case : Type 0 where
