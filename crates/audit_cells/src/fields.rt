@@ -30,7 +30,7 @@ fn counts_sound(table: &[u16], index: usize) -> bool
     requires { ⌜ TableShape (now table) × (index < capacity (now table)) ⌝ }
     ensures { λ r. ⌜ r ≡ countsSound (now (table .entry)) index ⌝ }
 {
-    if 1 < cells::state_word(table, index) {
+    if cells::USED < cells::state_word(table, index) {
         return false;
     }
     if RootCount::CEILING < cells::root_count(table, index).0 {

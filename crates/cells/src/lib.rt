@@ -48,7 +48,7 @@ const STATE: usize = 4;
 // States: a free cell's, and a new cell's.
 const FREE: u16 = 0;
 
-const USED: u16 = 1;
+pub const USED: u16 = 1;
 
 // A field of a cell: k is LEFT or RIGHT.
 pub fn field(table: &[u16], index: usize, k: usize) -> u16

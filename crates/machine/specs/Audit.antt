@@ -7,7 +7,7 @@ use lib.Dec.{leb, eqb}
 use Rattle.machine.specs.declared.Queue.{Queue}
 use Rattle.machine.specs.Range.{every, everyOf, occurrences, lastOf}
 use Rattle.machine.specs.Words.{isNil, isCell, isAtom, isLegal, ceiling}
-use Rattle.machine.specs.Table.{stride, left, right, rootCount, cellCount, state, capacity, firstFree, lastFree, scratchWords, wordAt, putWord, inUse, isFree}
+use Rattle.machine.specs.Table.{stride, used, left, right, rootCount, cellCount, state, capacity, firstFree, lastFree, scratchWords, wordAt, putWord, inUse, isFree}
 use Rattle.machine.specs.Queue.{Packet, slots, slot, waiting}
 use Rattle.machine.specs.Packets.{Kind, reads, makes, replaces, raises, lowers, unknown, kindOf, root, plus, minus, changes, movedBy, names, uses}
 use Rattle.machine.specs.Counts.{pointers}
@@ -22,7 +22,7 @@ fieldSound t w = isNil w || isAtom w || (isCell (capacity t) w && inUse t (pred 
 
 unfoldable pub cellSound : List ℕ → ℕ → Bool
 cellSound t i =
-    leb (wordAt t i state) 1
+    leb (wordAt t i state) used
     && leb (wordAt t i rootCount) ceiling
     && leb (wordAt t i cellCount) ceiling
     && (isFree t i || (fieldSound t (wordAt t i left) && fieldSound t (wordAt t i right)))
