@@ -1,0 +1,187 @@
+#!/usr/bin/env python3
+"""Draws docs/architecture.svg (the crates) and docs/call.svg (the way of a call). Standard library only; run it in any folder."""
+import os
+
+HERE = os.path.dirname(os.path.abspath(__file__))
+FILL = {
+    "definition": "#cfe3f7",
+    "theorem": "#fbe3b0",
+    "code": "#e3f1df",
+    "face": "#b9dcae",
+    "text": "#f0ece3",
+    "test": "#e9def2",
+    "plain": "#ffffff",
+}
+
+
+class Drawing:
+    def __init__(self, width, height):
+        self.width, self.height = width, height
+        self.parts, self.boxes = [], {}
+
+    def text(self, x, y, words, size=12, weight="normal", anchor="middle", colour="#222"):
+        self.parts.append(
+            f'<text x="{x}" y="{y}" font-size="{size}" font-weight="{weight}" text-anchor="{anchor}" fill="{colour}">{words}</text>')
+
+    def box(self, name, x, y, width, height, kind, lines, dashed=False):
+        dash = ' stroke-dasharray="5 4"' if dashed else ""
+        self.parts.append(
+            f'<rect x="{x}" y="{y}" width="{width}" height="{height}" rx="5" fill="{FILL[kind]}" stroke="#555"{dash}/>')
+        self.boxes[name] = (x, y, width, height)
+        top = y + height / 2 - 8 * (len(lines) - 1) + 4
+        for i, words in enumerate(lines):
+            self.text(x + width / 2, top + 16 * i, words, 14 if i == 0 else 11.5, "bold" if i == 0 else "normal")
+
+    def line(self, points, dashed=False, colour="#555"):
+        dash = ' stroke-dasharray="5 4"' if dashed else ""
+        path = " ".join(f"{x},{y}" for x, y in points)
+        self.parts.append(f'<polyline points="{path}" fill="none" stroke="{colour}" stroke-width="1.4"{dash} marker-end="url(#arrow)"/>')
+
+    def down(self, upper, lower, from_part=0.5, to_part=0.5, dashed=False):
+        """An arrow from a part of the upper box's foot to a part of the lower box's top, with one bend if need be."""
+        x, y, w, h = self.boxes[upper]
+        u, v, s, _ = self.boxes[lower]
+        a, b = x + w * from_part, u + s * to_part
+        if abs(a - b) < 1:
+            self.line([(a, y + h), (a, v - 2)], dashed)
+        else:
+            middle = v - 12
+            self.line([(a, y + h), (a, middle), (b, middle), (b, v - 2)], dashed)
+
+    def write(self, name):
+        head = (
+            f'<svg xmlns="http://www.w3.org/2000/svg" viewBox="0 0 {self.width} {self.height}" width="{self.width}" height="{self.height}" '
+            'font-family="DejaVu Sans, Verdana, sans-serif">\n'
+            '<defs><marker id="arrow" viewBox="0 0 8 8" refX="7" refY="4" markerWidth="7" markerHeight="7" orient="auto">'
+            '<path d="M0,0 L8,4 L0,8 z" fill="#555"/></marker></defs>\n'
+            f'<rect width="{self.width}" height="{self.height}" fill="#ffffff"/>\n')
+        with open(os.path.join(HERE, name), "w", encoding="utf-8") as out:
+            out.write(head + "\n".join(self.parts) + "\n</svg>\n")
+
+
+def crates():
+    d = Drawing(1060, 800)
+    # bottom
+    d.box("machine", 20, 690, 1020, 62, "definition", ["machine", "declared types; in specs/ the whole machine, the promise, the worked cases; in proofs/ their laws"])
+    # leaves
+    d.box("cells", 210, 605, 220, 50, "code", ["cells", "header, fields, counts, state"])
+    d.box("queue", 455, 605, 220, 50, "code", ["queue", "the ring; waiting changes"])
+    d.box("questions", 210, 520, 220, 50, "code", ["questions", "1 to 5 and 7: on every store"])
+    # middle
+    d.box("calls", 210, 290, 140, 190, "code", ["calls", "fresh and the", "seven row calls"])
+    d.box("marks", 370, 430, 140, 50, "code", ["marks", "roots, marks"])
+    d.box("collector", 370, 290, 140, 75, "code", ["collector", "apply, mark,", "sweep"])
+    d.box("audit", 535, 290, 140, 36, "code", ["audit", "all rules; S5"])
+    d.box("audit_pointers", 535, 341, 140, 36, "code", ["audit_pointers", "S4"])
+    d.box("audit_packets", 535, 392, 140, 36, "code", ["audit_packets", "S3"])
+    d.box("audit_cells", 535, 443, 140, 36, "code", ["audit_cells", "S1, S2"])
+    d.box("soundness", 700, 290, 150, 365, "theorem", ["soundness", "every call keeps a", "sound store sound;", "nothing is trimmed;", "demand 3 over any", "list of calls", "", "(no code)"])
+    d.box("store", 210, 200, 640, 52, "face", ["store", "the public face: ten calls, one promise each"])
+    # texts and programs
+    d.box("line_text", 20, 290, 165, 365, "text", ["line_text", "a line's bytes to a", "request, a reply to", "an output line", "", "(knows no store)"])
+    d.box("session_lines", 20, 110, 330, 52, "text", ["session_lines", "bytes in, bytes out: the listing of an input"])
+    d.box("session", 20, 30, 330, 48, "text", ["session", "program: standard input to standard output"])
+    # tests
+    d.box("store_cases", 880, 110, 160, 52, "test", ["store_cases", "program: all ten calls"])
+    d.box("state_lines", 880, 290, 160, 365, "test", ["state_lines", "reads the reference's", "lists, writes replies", "and stores"])
+    d.box("reference", 570, 30, 290, 48, "plain", ["reference", "the same machine in Rust, from the papers"], dashed=True)
+
+    d.down("session", "session_lines")
+    d.down("session_lines", "store", 0.6879, 0.0578)
+    d.down("session_lines", "line_text", 0.25, 0.5)
+    d.down("store", "calls", 0.109, 0.5)
+    d.down("store", "collector", 0.359, 0.5)
+    d.down("store", "audit", 0.617, 0.5)
+    d.down("store", "soundness", 0.8828, 0.5)
+    d.down("store_cases", "state_lines")
+    # store_cases stands on the store, too
+    d.line([(880, 150), (800, 150), (800, 198)])
+    d.down("calls", "questions", 0.5, 0.3182)
+    d.down("collector", "marks")
+    # marks: on questions and queue
+    d.down("marks", "questions", 0.2, 0.854)
+    d.down("marks", "queue", 0.9, 0.1864)
+    # calls: on the queue
+    d.line([(350, 400), (360, 400), (360, 498), (475, 498), (475, 603)])
+    # the audit: rule upon rule; its crates stand on marks, questions and queue
+    d.down("audit", "audit_pointers")
+    d.down("audit_pointers", "audit_packets")
+    d.down("audit_packets", "audit_cells")
+    d.line([(535, 308), (522, 308), (522, 450), (512, 450)])
+    d.line([(605, 479), (605, 545), (432, 545)])
+    d.line([(675, 410), (687, 410), (687, 630), (677, 630)])
+    d.down("questions", "cells")
+    d.down("cells", "machine", 0.5, 0.294)
+    d.down("queue", "machine", 0.5, 0.534)
+    d.down("line_text", "machine", 0.5, 0.0809)
+    d.down("soundness", "machine", 0.5, 0.7402)
+    d.down("state_lines", "machine", 0.5, 0.9216)
+    # expected outputs
+    d.line([(570, 54), (352, 54)], dashed=True)
+    d.line([(860, 54), (960, 54), (960, 108)], dashed=True)
+    d.text(460, 46, "expected outputs", 11, colour="#555")
+    d.text(915, 46, "expected outputs", 11, colour="#555")
+    legend(d, 20, 772, [("definition", "definitions"), ("code", "code, proved equal to them"), ("theorem", "theorems about them"), ("face", "public calls"), ("text", "session"), ("test", "tests")])
+    d.write("architecture.svg")
+
+
+def legend(d, x, y, entries):
+    for kind, words in entries:
+        d.parts.append(f'<rect x="{x}" y="{y}" width="16" height="14" rx="3" fill="{FILL[kind]}" stroke="#555"/>')
+        d.text(x + 22, y + 12, words, 11.5, anchor="start")
+        x += 40 + 7 * len(words)
+
+
+def call():
+    d = Drawing(1060, 640)
+    d.text(20, 28, "A row call: the line cons 1 0, third of a session", 15, "bold", "start")
+    d.box("parse", 20, 50, 190, 62, "text", ["line_text::parse", "bytes to a request", "requestOf"])
+    d.box("serve", 240, 50, 190, 62, "text", ["session_lines::serve", "one call of the store", "Serves"])
+    d.box("store", 460, 50, 190, 62, "face", ["store::cons", "the public call", "Promise"])
+    d.box("calls", 680, 50, 190, 62, "code", ["calls::cons", "first asks, then writes", "RowCalled"])
+    d.box("early", 560, 160, 200, 62, "code", ["questions", "1, 4 and 7:", "shape, words, slots"])
+    d.box("late", 790, 160, 200, 62, "code", ["queue, cells", "6, 8, 9, 10: counts with", "their waiting changes"])
+    d.box("write", 560, 262, 200, 62, "code", ["cells", "the first free cell", "gets both operands"])
+    d.box("append", 790, 262, 200, 62, "code", ["queue::append", "one packet more:", "kind 2, (1, 0, 2)"])
+    d.box("put", 20, 262, 190, 62, "text", ["line_text::put_line", "3 OK 2", "outputLine"])
+    d.box("verdict", 240, 262, 190, 62, "text", ["line_text::row_verdict", "a reply to a verdict", "verdictOf"])
+    for a, b in [("parse", "serve"), ("serve", "store"), ("store", "calls"), ("early", "late"), ("write", "append")]:
+        x, y, w, h = d.boxes[a]
+        u = d.boxes[b][0]
+        d.line([(x + w, y + h / 2), (u - 2, y + h / 2)])
+    d.line([(775, 112), (775, 136), (660, 136), (660, 158)])
+    d.line([(890, 222), (890, 242), (660, 242), (660, 260)])
+    d.text(775, 236, "no question says no", 11, colour="#555")
+    # the answer goes back; a refusal goes back before anything is written
+    d.line([(990, 293), (1020, 293), (1020, 350), (335, 350), (335, 326)])
+    d.line([(240, 293), (212, 293)])
+    d.line([(560, 191), (335, 191), (335, 260)], dashed=True)
+    d.text(448, 184, "a no: its number, nothing changed", 11, colour="#555")
+    d.text(700, 366, "the new cell and the queue", 11, colour="#555")
+
+    d.text(20, 418, "A step", 15, "bold", "start")
+    d.box("step", 20, 440, 170, 62, "face", ["store::step", "the public call", "Promise"])
+    d.box("lent", 215, 440, 170, 62, "code", ["questions::lent", "1 and 2"])
+    d.box("take", 410, 440, 190, 62, "code", ["queue::take", "the oldest packet;", "none waiting: idle"])
+    d.box("apply", 625, 440, 190, 62, "code", ["collector, cells", "its count changes", "one by one"])
+    d.box("stay", 840, 440, 200, 62, "code", ["marks::roots", "is every cell that it", "names still a root?"])
+    d.box("mark", 625, 550, 190, 62, "code", ["marks::mark", "every reached cell,", "in the scratch"])
+    d.box("sweep", 410, 550, 190, 62, "code", ["collector, cells", "sweep: free the rest,", "lower, join the free list"])
+    d.box("clear", 215, 550, 170, 62, "code", ["marks::clear", "the scratch"])
+    d.box("reply", 20, 550, 170, 62, "plain", ["reply", "kind, cells freed,", "the queue"])
+    for a, b in [("step", "lent"), ("lent", "take"), ("take", "apply"), ("apply", "stay")]:
+        x, y, w, h = d.boxes[a]
+        d.line([(x + w, y + h / 2), (d.boxes[b][0] - 2, y + h / 2)])
+    for a, b in [("mark", "sweep"), ("sweep", "clear"), ("clear", "reply")]:
+        x, y, w, h = d.boxes[a]
+        d.line([(x, y + h / 2), (d.boxes[b][0] + d.boxes[b][2] + 2, y + h / 2)])
+    d.line([(940, 502), (940, 581), (817, 581)])
+    d.text(950, 560, "no", 12, anchor="start", colour="#555")
+    d.line([(880, 502), (880, 526), (300, 526), (300, 548)], dashed=True)
+    d.text(600, 520, "yes: on a sound store nothing can be freed", 11, colour="#555")
+    d.write("call.svg")
+
+
+if __name__ == "__main__":
+    crates()
+    call()
