@@ -1,13 +1,16 @@
 #!/bin/sh
-# The session program against the reference on the same inputs, both built for release: lines per second and the ratio.
+# The session program against the reference on the same inputs, both built for release, in one run: million lines a second and the ratio.
+# Usage: bench/run.sh [PROGRAM...]: further programs that do the same job get a column each, in the order given.
 set -eu
 cd "$(dirname "$0")/.."
 rt check session >/dev/null
 cargo build --release --offline --quiet --manifest-path reference/Cargo.toml
-ours=target/bin/session
-theirs=${CARGO_TARGET_DIR:-reference/target}/release/reference
+reference=${CARGO_TARGET_DIR:-reference/target}/release/reference
 work=$(mktemp -d)
 trap 'rm -rf "$work"' EXIT
+printf '#!/bin/sh\nexec "%s" session\n' "$(readlink -f "$reference")" >"$work/reference"
+chmod +x "$work/reference"
+lines=1000000
 
 # A chain of C - 1 cells held at its head; then rounds that leave it as it is.
 chain() { # C
@@ -16,66 +19,127 @@ chain() { # C
         for (i = 1; i < c - 1; i++) { print "cons " i " 0"; print "step" }
     }'
 }
-# A step after an up frees nothing and marks nothing.
-quiet() { # C ROUNDS
+# The text over and over, up to so many lines.
+repeated() { # TEXT LINES
+    awk -v t="$1" -v n="$2" 'BEGIN { k = split(t, part, "/"); for (i = 0; i < n; i++) print part[i % k + 1] }'
+}
+# A step after an up or a down of a cell held more than once frees nothing and marks nothing.
+quiet() { # C
     chain "$1"
-    awk -v h="$(($1 - 1))" -v n="$2" 'BEGIN { for (i = 0; i < n; i++) { print "up " h " 1"; print "step"; print "down " h " 1"; print "step" } }'
+    repeated "up $(($1 - 1)) 1/step/down $(($1 - 1)) 1/step" "$lines"
 }
 # A cell made and given up: the step that takes the down marks the whole chain and frees one cell.
-marking() { # C ROUNDS
+marking() { # C LINES
     chain "$1"
-    awk -v k="$1" -v n="$2" 'BEGIN { for (i = 0; i < n; i++) { print "cons 0 0"; print "step"; print "down " k " 1"; print "step" } }'
+    repeated "cons 0 0/step/down $1 1/step" "$2"
+}
+# Rings of C / 2 cells, each made, closed and given up: the last step of a round frees it. Freed cells come back at the free list's end, so that rounds
+# use the lower and the upper half of the cells in turn.
+rings() { # C
+    awk -v c="$1" -v n="$lines" 'BEGIN {
+        print "fresh " c; half = c / 2
+        for (i = 0; i < n; i += 2 * (half + 3)) {
+            first = low ? half + 1 : 1; low = !low; last = first + half - 1
+            print "cons 0 0"; print "step"; print "up " first " 1"; print "step"
+            for (k = first; k < last; k++) { print "cons " k " 0"; print "step" }
+            print "setl " first " " last; print "step"; print "down " first " 1"; print "step"
+        }
+    }'
+}
+# 63 packets wait all the time.
+long_queue() {
+    echo "fresh 64"; echo "cons 0 0"
+    repeated "up 1 1/down 1 1" 62
+    repeated "up 1 1/step/down 1 1/step" "$lines"
+}
+# 64 packets wait, and every call is refused.
+full_queue() {
+    echo "fresh 64"; echo "cons 0 0"
+    repeated "up 1 1" 63
+    repeated "up 1 1/cons 1 1/car 1/down 1 1" "$lines"
+}
+# The stored session: many short sessions, lines that are no calls among them.
+stored() {
+    while cat crates/session/stdin && echo; do :; done 2>/dev/null | head -n "$lines"
 }
 # One line over and over after a fresh: the store has next to nothing to do, so that this is the cost of a line itself.
-same() { # LINE TIMES
-    awk -v t="$1" -v n="$2" 'BEGIN { print "fresh 64"; for (i = 0; i < n; i++) print t }'
-}
-# The best of five runs, in microseconds.
-best() { # PROGRAM..
-    least=
-    for _ in 1 2 3 4 5; do
-        from=$(date +%s%N)
-        "$@" <"$work/in" >"$work/out"
-        spent=$((($(date +%s%N) - from) / 1000))
-        if [ -z "$least" ] || [ "$spent" -lt "$least" ]; then least=$spent; fi
-    done
-    echo "$least"
-}
-measure() { # NAME C
-    lines=$(wc -l <"$work/in")
-    a=$(best "$ours")
-    cp "$work/out" "$work/ours"
-    b=$(best "$theirs" session)
-    cmp -s "$work/ours" "$work/out" || { echo "outputs differ: $1 $2" >&2; exit 1; }
-    awk -v n="$1" -v c="$2" -v l="$lines" -v a="$a" -v b="$b" 'BEGIN {
-        printf "| %s | %d | %d | %.2f | %.2f | %.2f |\n", n, c, l, l / a, l / b, b / a }'
+same() { # LINE
+    echo "fresh 64"
+    repeated "$1" "$lines"
 }
 
-echo "| input | C | lines | ours, million lines/s | reference, million lines/s | ratio |"
-echo "|---|---|---|---|---|---|"
-for c in 64 512 4096; do
-    "$theirs" generate 7 session lively "$c" 200000 >"$work/in"
-    measure "mix of calls" "$c"
-    quiet "$c" 50000 >"$work/in"
-    measure "steps that free nothing" "$c"
-    marking "$c" 2000 >"$work/in"
-    measure "steps that mark everything" "$c"
+# The programs take turns, five times; the best of each counts.
+measure() { # NAME C
+    count=$(wc -l <"$work/in")
+    row="| $1 | $2 | $count |"
+    : >"$work/spent"
+    for _ in 1 2 3 4 5; do
+        column=0
+        for program in target/bin/session "$work/reference" $programs; do
+            column=$((column + 1))
+            from=$(date +%s%N)
+            "$program" <"$work/in" >"$work/out$column"
+            echo "$column $((($(date +%s%N) - from) / 1000))" >>"$work/spent"
+            cmp -s "$work/out1" "$work/out$column" || { echo "outputs differ: $1 $2, column $column" >&2; exit 1; }
+        done
+    done
+    awk -v row="$row" -v n="$count" '
+        !($1 in best) || $2 < best[$1] { best[$1] = $2 }
+        $1 > most { most = $1 }
+        END {
+            printf "%s %.2f | %.2f | %.2f |", row, n / best[1], n / best[2], best[2] / best[1]
+            for (k = 3; k <= most; k++) printf " %.2f |", n / best[k]
+            print ""
+        }' "$work/spent"
+}
+
+programs=
+heading="| input | C | lines | ours, million lines/s | reference, million lines/s | ratio |"
+rule="|---|---|---|---|---|---|"
+for program; do
+    programs="$programs $(readlink -f "$program")"
+    heading="$heading $(basename "$program"), million lines/s |"
+    rule="$rule---|"
 done
+echo "$heading"
+echo "$rule"
+for c in 64 512 4096; do
+    "$reference" generate 7 session lively "$c" $((c < 4096 ? lines : lines / 5)) >"$work/in"
+    measure "mix of calls" "$c"
+    quiet "$c" >"$work/in"
+    measure "steps that free nothing" "$c"
+    marking "$c" $((lines / (c < 4096 ? 1 : 20))) >"$work/in"
+    measure "steps that mark everything" "$c"
+    rings "$c" >"$work/in"
+    measure "rings made and given up" "$c"
+done
+long_queue >"$work/in"
+measure "63 packets waiting" 64
+full_queue >"$work/in"
+measure "64 packets waiting, all refused" 64
+stored >"$work/in"
+measure "the stored session" "1 to 4,096"
 for line in "car 70" "step" "no call"; do
-    same "$line" 1000000 >"$work/in"
+    same "$line" >"$work/in"
     measure "'$line' over and over" 64
 done
 
 # A marking step alone: rounds added, so that the chain's making falls out.
-marking_step() { # C
-    marking "$1" 1000 >"$work/in"
-    few=$(best "$ours")
-    marking "$1" 5000 >"$work/in"
-    many=$(best "$ours")
-    echo $(((many - few) / 4))
+marking_round() { # C
+    for rounds in 1000 5000; do
+        marking "$1" $((4 * rounds)) >"$work/in"
+        least=
+        for _ in 1 2 3 4 5; do
+            from=$(date +%s%N)
+            target/bin/session <"$work/in" >"$work/out1"
+            spent=$((($(date +%s%N) - from) / 1000))
+            if [ -z "$least" ] || [ "$spent" -lt "$least" ]; then least=$spent; fi
+        done
+        echo "$least"
+    done | awk 'NR == 1 { few = $1 } END { print ($1 - few) / 4000 }'
 }
-small=$(marking_step 512)
-large=$(marking_step 4096)
+small=$(marking_round 512)
+large=$(marking_round 4096)
 echo
 awk -v a="$small" -v b="$large" 'BEGIN {
-    printf "A round with one marking step takes %.2f us at C = 512 and %.2f us at C = 4,096: growth %.1f.\n", a / 1000, b / 1000, b / a }'
+    printf "A round with one marking step takes %.2f us at C = 512 and %.2f us at C = 4,096: growth %.1f.\n", a, b, b / a }'
