@@ -3,25 +3,24 @@ use mathlib.Core.Path.{_≡_, refl, sym, ap, _∙_}
 use mathlib.Core.Logic.{_⊎_, inl, inr, ⊎-elim}
 use mathlib.Core.Bool.{true, false, false≢true}
 use mathlib.Core.List.{List, [], _∷_}
-use Prim.Native.Nat.{ℕ, zero, suc, _≤_, _<_}
+use Prim.Native.Nat.{ℕ, zero, suc, _<_}
 use native.Mathlib.Omega.{arith}
 use lib.Dec.{ltb}
-use lib.ListN.{length}
-use borrow.Author.Tests.{le-leb, ltb-true, eqb-true, eq-eqb}
+use borrow.Author.Tests.{ltb-true, eqb-true, eq-eqb}
 use Rattle.machine.specs.declared.Queue.{Queue}
-use Rattle.machine.specs.Table.{rootCount, capacity, scratchWords, wordAt, inUse, isFree}
+use Rattle.machine.specs.Table.{rootCount, capacity, wordAt, inUse, isFree}
 use Rattle.machine.specs.Queue.{Packet, waiting}
 use Rattle.machine.specs.Packets.{root, plus, minus, isNamed}
 use Rattle.machine.specs.Reached.{isRoot, begun, onward, Reached, ReachedFrom}
-use Rattle.machine.specs.Calls.{Call, fresh, row, step, audit, Reply, value, refused, sound, Store, store}
+use Rattle.machine.specs.Calls.{Call, fresh, row, step, audit, Reply, value, refused, Store, store}
 use Rattle.machine.specs.Step.{Outcome, stepWith, stepFrom, stepped}
-use Rattle.machine.specs.Questions.{firstNo, scratchEnough, early, late, questions}
-use Rattle.machine.specs.Audit.{rules, auditReply, audited, Sound}
+use Rattle.machine.specs.Questions.{firstNo, questions}
+use Rattle.machine.specs.Audit.{audited}
 use Rattle.machine.specs.Machine.{accepted, machine}
 use Rattle.machine.specs.Promise.{Promise}
 use Rattle.machine.proofs.Range.{tested, or-true}
-use Rattle.machine.proofs.Questions.{firstNo-zero}
 use Rattle.machine.proofs.Kept.{machine-refused, machine-accepted, gives-machine}
+use Rattle.machine.proofs.AuditedSound.{audited-sound}
 use Rattle.soundness.specs.Demand3.{Link, Joined, Begun, tableAfter, queueAfter, Holds, holds, moved, answers, holdsFrom, holdsAfter, Held, NoneLost, NoneLeft, ExactWhenDone, Clauses, Demand3}
 use Rattle.soundness.proofs.PacketKinds.{unnamed-waiting}
 use Rattle.soundness.proofs.Facts.{Facts, sound-facts, sound-live}
@@ -90,20 +89,6 @@ links-agree t q h (l ∷ ls) a j =
     links-agree (l .after .table) (l .after .queue) (λ x. moved x (l .call) (l .reply) (h x)) ls
     (promise-agrees (store t q (l .scratch)) (l .call) (l .reply) (l .after) h (j .0) a) (j .1)
 
--- a store that is sound audits so
-module _ (t : List ℕ) (q : Queue) (s : List ℕ) (h : Sound t q) (l : scratchWords (capacity t) ≤ length s) where
-  audit-asked : firstNo (questions (store t q s) audit) ≡ 0
-  unfolding questions early late scratchEnough
-  audit-asked = firstNo-zero (questions (store t q s) audit) (h .shape, (le-leb (scratchWords (capacity t)) (length s) l, tt))
-
-  rules-kept : firstNo (rules t q) ≡ 0
-  unfolding rules
-  rules-kept = firstNo-zero (rules t q) (h .cells, (h .chain, (h .packets, (h .pointed, (h .live, tt)))))
-
-  pub audit-sound : machine (store t q s) audit .reply ≡ sound
-  unfolding accepted audited auditReply
-  audit-sound = ap (λ (o : Outcome). o .reply) (machine-accepted (store t q s) audit audit-asked) ∙ ap auditReply rules-kept
-
 -- the clauses
 module _ (t : List ℕ) (q : Queue) (h : ℕ → Holds) (a : Agrees t q h) where
   abbrev ps : List Packet
@@ -161,7 +146,7 @@ module _ (t : List ℕ) (q : Queue) (h : ℕ → Holds) (a : Agrees t q h) where
     none-lost = none-lost;
     none-left = none-left;
     exact-when-done = exact-when-done;
-    audits-sound = λ s r after l p. gives-machine (store t q s) audit r after (p .exact tt) .0 ∙ audit-sound t q s (a .whole .sound) l;
+    audits-sound = λ s r after l p. audited-sound t q s r after p .1 (a .whole .sound, l);
   }
 
 -- every list that demand 3 covers carries the facts, a sound store among them, to its end
