@@ -1,6 +1,7 @@
 -- Each shortcut breaks its clause, by computation; and the right parts make the machine.
 use mathlib.Core.Path.{_≡_, refl}
-use mathlib.Core.Bool.{true≢false}
+use mathlib.Core.Logic.{⊎-elim}
+use mathlib.Core.Bool.{true≢false, false≢true}
 use mathlib.Core.List.{List, [], _∷_}
 use Prim.Native.Nat.{ℕ, zero, suc}
 use native.Mathlib.Omega.{arith}
@@ -46,4 +47,6 @@ shortcuts-bite = record {
   one-hold-for-both = λ h. let z = h 0 (lit< tt) in omega arith;
   children-left = λ h. let z = h 0 (lit< tt) in omega arith;
   unprotected = λ h. true≢false (h 0 0 (lit< tt) (begun (lit< tt) refl));
+  frees-nothing = λ h. let w = h 0 (lit< tt) refl in ⊎-elim (λ g. omega arith) false≢true (w .1);
+  frees-nothing-done = λ h. let w = h refl 0 (lit< tt) .0 refl in let g = w .1 in omega arith;
 }
