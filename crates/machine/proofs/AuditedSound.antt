@@ -1,5 +1,5 @@
 -- The audit's reply and the record `Sound` say the same.
-use mathlib.Core.Path.{_≡_, refl, sym, ap, _∙_}
+use mathlib.Core.Path.{_≡_, refl, ap}
 use mathlib.Core.Logic.{_↔_}
 use mathlib.Core.List.{List}
 use Prim.Native.Nat.{ℕ, zero, suc, _≤_}
@@ -9,13 +9,12 @@ use borrow.Author.Tests.{le-leb, leb-true}
 use Rattle.machine.specs.declared.Queue.{Queue}
 use Rattle.machine.specs.Table.{capacity, scratchWords}
 use Rattle.machine.specs.Calls.{audit, refused, sound, store}
-use Rattle.machine.specs.Step.{Outcome}
 use Rattle.machine.specs.Questions.{firstNo, scratchEnough, early, late, questions}
 use Rattle.machine.specs.Audit.{rules, auditReply, audited, Sound}
 use Rattle.machine.specs.Machine.{accepted, machine}
 use Rattle.machine.specs.AuditedSound.{AuditedSound}
 use Rattle.machine.proofs.Questions.{Numbered, AllYes, firstNo-all, firstNo-zero}
-use Rattle.machine.proofs.Kept.{machine-refused, machine-accepted, early-yes, gives-machine}
+use Rattle.machine.proofs.Kept.{machine-cases, early-yes, gives-machine}
 
 none-broken : (n : ℕ) → auditReply n ≡ sound → n ≡ 0
 unfolding auditReply
@@ -33,11 +32,6 @@ module _ (t : List ℕ) (q : Queue) (s : List ℕ) where
   abbrev Found : Type 0
   Found = Sound t q × (scratchWords (capacity t) ≤ length s)
 
-  -- an accepted audit replies by the rules alone
-  reply-is : firstNo (questions (store t q s) audit) ≡ 0 → machine (store t q s) audit .reply ≡ auditReply (firstNo (rules t q))
-  unfolding accepted audited
-  reply-is e = ap (λ (o : Outcome). o .reply) (machine-accepted (store t q s) audit e)
-
   asked : Found → firstNo (questions (store t q s) audit) ≡ 0
   unfolding questions early late scratchEnough
   asked h = firstNo-zero (questions (store t q s) audit) (h .0 .shape, (le-leb (scratchWords (capacity t)) (length s) (h .1), tt))
@@ -54,13 +48,12 @@ module _ (t : List ℕ) (q : Queue) (s : List ℕ) where
         leb-true (scratchWords (capacity t)) (length s) (y .1 .0),
       )
 
-  -- of the machine's own audit
+  -- of the machine's own audit: an accepted one replies by the rules alone
   pub machine-audits : (machine (store t q s) audit .reply ≡ sound) ↔ Found
-  machine-audits = (λ r. go r (firstNo (questions (store t q s) audit)) refl, λ h. reply-is (asked h) ∙ unfold auditReply in ap auditReply (kept h))
-    where
-      go : machine (store t q s) audit .reply ≡ sound → (n : ℕ) → firstNo (questions (store t q s) audit) ≡ n → Found
-      go r zero e = found e (firstNo-all (rules t q) (rules-numbered t q) (none-broken (firstNo (rules t q)) (sym (reply-is e) ∙ r)))
-      go r (suc n) e = absurd (not-refused (suc n) (sym (ap (λ (o : Outcome). o .reply) (machine-refused (store t q s) audit n e)) ∙ r))
+  unfolding accepted audited
+  machine-audits = machine-cases (store t q s) audit (λ o. (o .reply ≡ sound) ↔ Found)
+      (λ e. (λ r. found e (firstNo-all (rules t q) (rules-numbered t q) (none-broken (firstNo (rules t q)) r)), λ h. unfold auditReply in ap auditReply (kept h)))
+      (λ n e. (λ r. absurd (not-refused (suc n) r), λ h. absurd (omega (arith, asked h))))
 
 pub audited-sound : AuditedSound
 audited-sound t q s r after p = rw (gives-machine (store t q s) audit r after (p .exact tt) .0) (machine-audits t q s)

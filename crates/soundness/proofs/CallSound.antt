@@ -2,7 +2,7 @@
 use mathlib.Core.Path.{_≡_, refl}
 use mathlib.Core.Logic.{inl}
 use mathlib.Core.List.{List, [], _∷_}
-use Prim.Native.Nat.{ℕ, zero, suc, _≤_}
+use Prim.Native.Nat.{ℕ, _≤_}
 use lib.Dec.{leb}
 use lib.ListN.{length}
 use borrow.Author.Tests.{leb-true}
@@ -17,7 +17,7 @@ use Rattle.machine.specs.Machine.{accepted, machine}
 use Rattle.machine.specs.Promise.{Decided, Promise}
 use Rattle.machine.proofs.Range.{and-first, and-second}
 use Rattle.machine.proofs.Ring.{arrays-appended, arrays-taken}
-use Rattle.machine.proofs.Kept.{machine-refused, machine-accepted, early-yes, gives-machine}
+use Rattle.machine.proofs.Kept.{machine-cases, early-yes, gives-machine}
 use Rattle.soundness.specs.Whole.{Whole}
 use Rattle.soundness.proofs.ZeroSlots.{arrays-empty}
 use Rattle.soundness.proofs.FreshSound.{fresh-sound}
@@ -58,11 +58,7 @@ accepted-whole s step w h = step-whole s w (waiting (s .queue)) refl
 accepted-whole s audit w h = w
 
 pub machine-whole : (s : Store) (call : Call) → Whole (s .table) (s .queue) → Whole (machine s call .after .table) (machine s call .after .queue)
-machine-whole s call w = go (firstNo (questions s call)) refl
-  where
-    go : (n : ℕ) → firstNo (questions s call) ≡ n → Whole (machine s call .after .table) (machine s call .after .queue)
-    go zero e = rw (machine-accepted s call e) (accepted-whole s call w e)
-    go (suc n) e = rw (machine-refused s call n e) w
+machine-whole s call w = machine-cases s call (λ o. Whole (o .after .table) (o .after .queue)) (accepted-whole s call w) (λ n e. w)
 
 -- on a sound store all that a call gives is decided
 pub decided : (s : Store) (call : Call) → Sound (s .table) (s .queue) → Decided s call

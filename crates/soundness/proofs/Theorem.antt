@@ -1,9 +1,9 @@
 -- Demand 3: the facts carried from call to call give every clause.
-use mathlib.Core.Path.{_≡_, refl, sym, ap, _∙_}
+use mathlib.Core.Path.{_≡_, refl, sym, _∙_}
 use mathlib.Core.Logic.{_⊎_, inl, inr, ⊎-elim}
 use mathlib.Core.Bool.{true, false, false≢true}
 use mathlib.Core.List.{List, [], _∷_}
-use Prim.Native.Nat.{ℕ, zero, suc, _<_}
+use Prim.Native.Nat.{ℕ, suc, _<_}
 use native.Mathlib.Omega.{arith}
 use lib.Dec.{ltb}
 use borrow.Author.Tests.{ltb-true, eqb-true, eq-eqb}
@@ -13,13 +13,13 @@ use Rattle.machine.specs.Queue.{Packet, waiting}
 use Rattle.machine.specs.Packets.{root, plus, minus, isNamed}
 use Rattle.machine.specs.Reached.{isRoot, begun, onward, Reached, ReachedFrom}
 use Rattle.machine.specs.Calls.{Call, fresh, row, step, audit, Reply, value, refused, Store, store}
-use Rattle.machine.specs.Step.{Outcome, stepWith, stepFrom, stepped}
+use Rattle.machine.specs.Step.{stepWith, stepFrom, stepped}
 use Rattle.machine.specs.Questions.{firstNo, questions}
 use Rattle.machine.specs.Audit.{audited}
 use Rattle.machine.specs.Machine.{accepted, machine}
 use Rattle.machine.specs.Promise.{Promise}
 use Rattle.machine.proofs.Range.{tested, or-true}
-use Rattle.machine.proofs.Kept.{machine-refused, machine-accepted, gives-machine}
+use Rattle.machine.proofs.Kept.{machine-cases, gives-machine}
 use Rattle.machine.proofs.AuditedSound.{audited-sound}
 use Rattle.soundness.specs.Demand3.{Link, Joined, Begun, tableAfter, queueAfter, Holds, holds, moved, answers, holdsFrom, holdsAfter, Held, NoneLost, NoneLeft, ExactWhenDone, Clauses, Demand3}
 use Rattle.soundness.proofs.PacketKinds.{unnamed-waiting}
@@ -53,12 +53,8 @@ accepted-agrees s audit h a e = a
 
 machine-agrees : (s : Store) (call : Call) (h : ℕ → Holds) → Agrees (s .table) (s .queue) h
     → Agrees (machine s call .after .table) (machine s call .after .queue) (λ x. moved x call (machine s call .reply) (h x))
-machine-agrees s call h a = go (firstNo (questions s call)) refl
-  where
-    go : (n : ℕ) → firstNo (questions s call) ≡ n
-        → Agrees (machine s call .after .table) (machine s call .after .queue) (λ x. moved x call (machine s call .reply) (h x))
-    go zero e = rw (machine-accepted s call e) (accepted-agrees s call h a e)
-    go (suc n) e = rw (machine-refused s call n e) (refused-agrees (s .table) (s .queue) h call (suc n) a)
+machine-agrees s call h a = machine-cases s call (λ o. Agrees (o .after .table) (o .after .queue) (λ x. moved x call (o .reply) (h x)))
+    (accepted-agrees s call h a) (λ n e. refused-agrees (s .table) (s .queue) h call (suc n) a)
 
 -- whoever keeps the promise carries them on too, since on a sound store all that a call gives is decided
 pub promise-agrees : (s : Store) (call : Call) (r : Reply) (after : Store) (h : ℕ → Holds) → Promise s call r after → Agrees (s .table) (s .queue) h
@@ -69,17 +65,13 @@ promise-agrees s call r after h p a =
 
 -- an accepted fresh of any store starts them
 begun-agrees : (s : Store) (c w : ℕ) (r : Reply) (after : Store) → Promise s (fresh c) r after → r ≡ value w → Agrees (after .table) (after .queue) (λ x. holds 0 0)
-begun-agrees s c w r after p v = go (firstNo (questions s (fresh c))) refl
+begun-agrees s c w r after p v =
+    let e = gives-machine s (fresh c) r after (p .exact tt) in
+    rw (e .1) (machine-cases s (fresh c) (λ o. o .reply ≡ value w → Agrees (o .after .table) (o .after .queue) (λ x. holds 0 0))
+    (λ d _. unfold accepted in fresh-agrees s c d) (λ n d g. absurd (not-value (suc n) g)) (sym (e .0) ∙ v))
   where
-    e : (r ≡ machine s (fresh c) .reply) × (after ≡ machine s (fresh c) .after)
-    e = gives-machine s (fresh c) r after (p .exact tt)
-
     not-value : (n : ℕ) → refused n ≡ value w → ⊥
     not-value n d = let z : _≡_ {A = ℕ} 0 1 = cc in omega arith
-
-    go : (n : ℕ) → firstNo (questions s (fresh c)) ≡ n → Agrees (after .table) (after .queue) (λ x. holds 0 0)
-    go zero d = rw (e .1, machine-accepted s (fresh c) d) (unfold accepted in fresh-agrees s c d)
-    go (suc n) d = absurd (not-value (suc n) (sym (ap (λ (o : Outcome). o .reply) (machine-refused s (fresh c) n d)) ∙ sym (e .0) ∙ v))
 
 links-agree : (t : List ℕ) (q : Queue) (h : ℕ → Holds) (ls : List Link) → Agrees t q h → Joined t q ls
     → Agrees (tableAfter t ls) (queueAfter q ls) (λ x. holdsFrom (h x) (answers ls) x)
