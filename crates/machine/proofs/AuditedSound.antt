@@ -52,7 +52,10 @@ module _ (t : List ℕ) (q : Queue) (s : List ℕ) where
   pub machine-audits : (machine (store t q s) audit .reply ≡ sound) ↔ Found
   unfolding accepted audited
   machine-audits = machine-cases (store t q s) audit (λ o. (o .reply ≡ sound) ↔ Found)
-      (λ e. (λ r. found e (firstNo-all (rules t q) (rules-numbered t q) (none-broken (firstNo (rules t q)) r)), λ h. unfold auditReply in ap auditReply (kept h)))
+      (λ e. (
+        λ r. found e (firstNo-all (rules t q) (rules-numbered t q) (none-broken (firstNo (rules t q)) r)),
+        λ h. unfold auditReply in ap auditReply (kept h),
+      ))
       (λ n e. (λ r. absurd (not-refused (suc n) r), λ h. absurd (omega (arith, asked h))))
 
 pub audited-sound : AuditedSound

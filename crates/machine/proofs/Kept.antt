@@ -203,7 +203,8 @@ early-yes s call h = firstNo-all (early s call) (early-numbered s call) (go (fir
     go (suc k) e = absurd (omega (arith, firstNo-append (early s call) (late s call) k e))
 
 kept-bounded : (s : Store) (call : Call) → Bounded call s (machine s call .after)
-kept-bounded s call = machine-cases s call (λ o. Bounded call s (o .after)) (λ e. bounded-accepted s call (early-yes s call e)) (λ n e. bounded-same s call)
+kept-bounded s call =
+    machine-cases s call (λ o. Bounded call s (o .after)) (λ e. bounded-accepted s call (early-yes s call e)) (λ n e. bounded-same s call)
 
 -- the machine's own answer is what a call gives, and the other way round
 machine-gives : (s : Store) (call : Call) → Gives s call (machine s call .reply) (machine s call .after)

@@ -1,4 +1,5 @@
--- "A store that the audit finds sound": where demand 2 binds a call (`Promise.Decided`) stands the record `Sound`. Both are the same: proved in proofs/AuditedSound.
+-- "A store that the audit finds sound", demand 2's premise: `Promise.Decided` says it by the record `Sound`, and both are the same. Proved in
+-- proofs/AuditedSound.
 use mathlib.Core.Path.{_≡_}
 use mathlib.Core.Logic.{_↔_}
 use mathlib.Core.List.{List}

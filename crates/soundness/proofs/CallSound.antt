@@ -1,15 +1,16 @@
 -- Every call of the machine leaves a sound store sound, accepted or refused; and an accepted fresh makes any store sound.
-use mathlib.Core.Path.{_≡_, refl}
+use mathlib.Core.Path.{_≡_, refl, sym}
 use mathlib.Core.Logic.{inl}
 use mathlib.Core.List.{List, [], _∷_}
-use Prim.Native.Nat.{ℕ, _≤_}
+use Prim.Native.Nat.{ℕ, suc, _≤_}
+use native.Mathlib.Omega.{arith}
 use lib.Dec.{leb}
 use lib.ListN.{length}
 use borrow.Author.Tests.{leb-true}
 use Rattle.machine.specs.Words.{mostCells}
 use Rattle.machine.specs.Table.{tableLength}
 use Rattle.machine.specs.Queue.{Packet, emptyQueue, waiting}
-use Rattle.machine.specs.Calls.{Call, fresh, row, step, audit, Reply, Store, packetOf, freshTable}
+use Rattle.machine.specs.Calls.{Call, fresh, row, step, audit, Reply, value, refused, Store, packetOf, freshTable}
 use Rattle.machine.specs.Step.{stepWith, stepFrom, stepped}
 use Rattle.machine.specs.Questions.{firstNo, cellsInRange, longEnough, early, questions}
 use Rattle.machine.specs.Audit.{Sound, audited}
@@ -71,3 +72,18 @@ decided s audit h = tt
 pub promise-whole : (s : Store) (call : Call) (r : Reply) (after : Store) → Promise s call r after → Whole (s .table) (s .queue)
     → Whole (after .table) (after .queue)
 promise-whole s call r after p w = rw (gives-machine s call r after (p .exact (decided s call (w .sound))) .1) (machine-whole s call w)
+
+-- a call that replies a value was accepted
+pub record Accepted (s : Store) (call : Call) (w : ℕ) (u : Store) : Type 0 where
+  pub asked : firstNo (questions s call) ≡ 0
+  pub reply : accepted s call .reply ≡ value w
+  pub after : u ≡ accepted s call .after
+
+pub value-accepted : (s : Store) (call : Call) (w : ℕ) (after : Store) → Decided s call → Promise s call (value w) after → Accepted s call w after
+value-accepted s call w after d p =
+    let e = gives-machine s call (value w) after (p .exact d) in
+    machine-cases s call (λ o. value w ≡ o .reply → after ≡ o .after → Accepted s call w after)
+    (λ a r u. record { asked = a; reply = sym r; after = u }) (λ n a r u. absurd (no-value (suc n) r)) (e .0) (e .1)
+  where
+    no-value : (n : ℕ) → value w ≡ refused n → ⊥
+    no-value n h = let z : _≡_ {A = ℕ} 0 1 = cc in omega arith

@@ -1,5 +1,5 @@
 -- Demand 3: the facts carried from call to call give every clause.
-use mathlib.Core.Path.{_≡_, refl, sym, _∙_}
+use mathlib.Core.Path.{_≡_, refl}
 use mathlib.Core.Logic.{_⊎_, inl, inr, ⊎-elim}
 use mathlib.Core.Bool.{true, false, false≢true}
 use mathlib.Core.List.{List, [], _∷_}
@@ -25,7 +25,7 @@ use Rattle.soundness.specs.Demand3.{Link, Joined, Begun, tableAfter, que
 use Rattle.soundness.proofs.PacketKinds.{unnamed-waiting}
 use Rattle.soundness.proofs.Facts.{Facts, sound-facts, sound-live}
 use Rattle.soundness.proofs.ReachedCells.{counted-used, pointed-used}
-use Rattle.soundness.proofs.CallSound.{decided}
+use Rattle.soundness.proofs.CallSound.{decided, value-accepted}
 use Rattle.soundness.proofs.CodeTests.{pointers-counted}
 use Rattle.soundness.proofs.RootsAreHolds.{Agrees, fresh-agrees, row-agrees, step-agrees}
 
@@ -64,14 +64,9 @@ promise-agrees s call r after h p a =
     rw (e .0, e .1) (machine-agrees s call h a)
 
 -- an accepted fresh of any store starts them
-begun-agrees : (s : Store) (c w : ℕ) (r : Reply) (after : Store) → Promise s (fresh c) r after → r ≡ value w → Agrees (after .table) (after .queue) (λ x. holds 0 0)
-begun-agrees s c w r after p v =
-    let e = gives-machine s (fresh c) r after (p .exact tt) in
-    rw (e .1) (machine-cases s (fresh c) (λ o. o .reply ≡ value w → Agrees (o .after .table) (o .after .queue) (λ x. holds 0 0))
-    (λ d _. unfold accepted in fresh-agrees s c d) (λ n d g. absurd (not-value (suc n) g)) (sym (e .0) ∙ v))
-  where
-    not-value : (n : ℕ) → refused n ≡ value w → ⊥
-    not-value n d = let z : _≡_ {A = ℕ} 0 1 = cc in omega arith
+begun-agrees : (s : Store) (c w : ℕ) (after : Store) → Promise s (fresh c) (value w) after → Agrees (after .table) (after .queue) (λ x. holds 0 0)
+unfolding accepted
+begun-agrees s c w after p = let a = value-accepted s (fresh c) w after tt p in rw (a .after) (fresh-agrees s c (a .asked))
 
 links-agree : (t : List ℕ) (q : Queue) (h : ℕ → Holds) (ls : List Link) → Agrees t q h → Joined t q ls
     → Agrees (tableAfter t ls) (queueAfter q ls) (λ x. holdsFrom (h x) (answers ls) x)
@@ -93,7 +88,7 @@ module _ (t : List ℕ) (q : Queue) (h : ℕ → Holds) (a : Agrees t q h) where
   held-used : (i : ℕ) → i < capacity t → Held t q h i → inUse t i ≡ true
   held-used i l g = counted-used t ps f i l (omega (arith, a .roots i l))
 
-  from-held : (j : ℕ) → Held t q h j → {i : ℕ} → ReachedFrom t j i → (i < capacity t) × (inUse t i ≡ true)
+  pub from-held : (j : ℕ) → Held t q h j → {i : ℕ} → ReachedFrom t j i → (i < capacity t) × (inUse t i ≡ true)
   from-held j g (begun {i = i} l e) = let d : j ≡ i = eqb-true j i e in (l, held-used i l (rw d at g))
   from-held j g (onward {j = k} {i = i} r l e) = let w = from-held j g r in (l, pointed-used t ps f k i (w .0) l (w .1) e)
 
@@ -121,7 +116,7 @@ module _ (t : List ℕ) (q : Queue) (h : ℕ → Holds) (a : Agrees t q h) where
       let w = from-root (sound-live t q (a .whole .sound) i l e) in
       (w .0, root-held (w .0) (w .1) (w .2), w .3)
 
-  exact-when-done : ExactWhenDone t q h
+  pub exact-when-done : ExactWhenDone t q h
   exact-when-done z i l = (there, λ w. from-held (w .0) (w .1) (w .2) .1)
     where
       none : (x : ℕ) → isNamed ps x ≡ true → ⊥
@@ -147,7 +142,7 @@ unfolding moved holdsFrom
 covered t q [] b j = absurd b
 covered t q (l ∷ ls) b j =
     links-agree (l .after .table) (l .after .queue) (λ x. moved x (l .call) (l .reply) (holds 0 0)) ls
-    (rw (b .2, b .3) (begun-agrees (store t q (l .scratch)) (b .0) (b .1) (l .reply) (l .after) (rw (b .2) at (j .0)) (b .3))) (j .1)
+    (rw (b .2, b .3) (begun-agrees (store t q (l .scratch)) (b .0) (b .1) (l .after) (rw (b .2, b .3) at (j .0)))) (j .1)
 
 pub demand3 : Demand3
 demand3 t q ls b j = clauses (tableAfter t ls) (queueAfter q ls) (holdsAfter ls) (covered t q ls b j)
