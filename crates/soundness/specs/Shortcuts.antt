@@ -18,7 +18,7 @@ use Rattle.machine.specs.Step.{counterWord, moveCount, applyChanges, unreached,
 use Rattle.machine.specs.Questions.{Question, ask, firstNo, questions}
 use Rattle.machine.specs.Machine.{accepted}
 use Rattle.machine.specs.Cases.{unmade}
-use Rattle.soundness.specs.Demand3.{Holds, tableAfter, queueAfter, holdsAfter, NoneOwed, CellsArePointers, NoneLost, NoneLeft, ExactWhenDone}
+use Rattle.soundness.specs.Demand3.{Holds, tableAfter, queueAfter, holdsAfter, NoneOwed, RootsAreHolds, CellsArePointers, NoneLost, NoneLeft, ExactWhenDone, AuditsSound}
 use Rattle.soundness.specs.Links.{linksOf}
 
 -- the parts in which a variant may differ from the machine
@@ -169,6 +169,7 @@ freesNothing-calls = fresh 3 ∷ row (cons 0 0) ∷ row (down 1 1) ∷ step ∷ 
 
 pub record ShortcutsBite : Type 0 where
   pub held-at-ceiling : Breaks heldAtCeiling heldAtCeiling-calls NoneLost
+  pub held-at-ceiling-counts : Breaks heldAtCeiling heldAtCeiling-calls RootsAreHolds
   pub named-as-dead : Breaks namedAsDead namedAsDead-calls NoneLost
   pub freed-in-between : Breaks freedInBetween freedInBetween-calls NoneLost
   pub one-hold-for-both : Breaks oneHoldForBoth oneHoldForBoth-calls NoneOwed
@@ -176,3 +177,4 @@ pub record ShortcutsBite : Type 0 where
   pub unprotected : Breaks unprotected unprotected-calls NoneLost
   pub frees-nothing : Breaks freesNothing freesNothing-calls NoneLeft
   pub frees-nothing-done : Breaks freesNothing freesNothing-calls ExactWhenDone
+  pub frees-nothing-audit : Breaks freesNothing freesNothing-calls AuditsSound
