@@ -3,15 +3,17 @@ use mathlib.Core.Path.{_≡_, refl, sym, ap, _∙_}
 use mathlib.Core.Logic.{_↔_, ⊎-elim}
 use mathlib.Core.Bool.{true}
 use mathlib.Core.List.{List, [], _∷_}
-use Prim.Native.Nat.{ℕ, suc, _-_, _≤_, _<_}
+use Prim.Native.Nat.{ℕ, suc, _+_, _-_, _≤_, _<_}
 use native.Mathlib.Omega.{arith}
 use lib.ListN.{length}
-use borrow.Author.Tests.{le-leb}
+use borrow.Author.Tests.{le-leb, leb-true}
 use Rattle.machine.specs.declared.Queue.{Queue}
-use Rattle.machine.specs.Table.{left, right, capacity, scratchWords, wordAt, inUse, isFree}
+use Rattle.machine.specs.Table.{left, right, rootCount, capacity, firstFree, scratchWords, wordAt, inUse, isFree}
 use Rattle.machine.specs.Queue.{Packet, putSlot, taken, packetsFrom, waiting}
+use Rattle.machine.specs.Packets.{root, plus, minus, waitingChange}
+use Rattle.machine.specs.Counts.{heldAtLeast}
 use Rattle.machine.specs.Reached.{pointsTo, begun, onward, ReachedFrom}
-use Rattle.machine.specs.Calls.{row, step, cons, Reply, value, refused, Store, store, valueOf}
+use Rattle.machine.specs.Calls.{row, step, cons, Reply, value, refused, Store, store, packetOf, valueOf}
 use Rattle.machine.specs.Step.{stepWith, stepFrom, stepped}
 use Rattle.machine.specs.Questions.{firstNo, scratchEnough, cellFree, earlyRow, early, askFree, lateRow, late, questions}
 use Rattle.machine.specs.Audit.{Sound}
@@ -23,13 +25,19 @@ use Rattle.machine.proofs.Ring.{length-waiting}
 use Rattle.machine.proofs.Questions.{firstNo-zero, firstNo-other}
 use Rattle.machine.proofs.Kept.{machine-accepted, machine-cases, gives-machine}
 use Rattle.soundness.specs.Demand3.{Link, Joined, tableAfter, queueAfter, Holds, moved, holdsAfter, Held}
-use Rattle.soundness.specs.Reliable.{Fields, put, fieldsAfter, FieldsStand, Steps, ReadsBack, Drains, FullOfHeld, Relied, Reliable}
+use Rattle.soundness.specs.Reliable.{Fields, put, fieldsAfter, FieldsStand, Steps, ReadsBack, NewIsFree, HeldByHolds, Drains, FullOfHeld, Relied, Reliable}
 use Rattle.soundness.proofs.Facts.{sound-facts}
+use Rattle.soundness.proofs.FreeChain.{chain-some}
 use Rattle.soundness.proofs.RowQuestions.{row-yes}
+use Rattle.soundness.proofs.Cons.{was-free}
+use Rattle.soundness.proofs.RowWrites.{cons-case}
 use Rattle.soundness.proofs.CallSound.{decided, value-accepted}
 use Rattle.soundness.proofs.RootsAreHolds.{Agrees}
 use Rattle.soundness.proofs.Theorem.{promise-agrees, from-held, exact-when-done, covered}
 use Rattle.soundness.proofs.FieldsStand.{row-replies, promise-put, fields-stand}
+
+same-value : (m n : ℕ) → value m ≡ value n → m ≡ n
+same-value m n e = cc
 
 -- one step with enough scratch takes one packet, if any waits
 module _ (t : List ℕ) (q : Queue) (s : List ℕ) (h : Sound t q) (enough : scratchWords (capacity t) ≤ length s) where
@@ -101,9 +109,24 @@ module _ (t : List ℕ) (q : Queue) (h : ℕ → Holds) (g : ℕ → Fields) (a 
       let y = value-accepted (store t q s) (row r) w after (a .whole .sound) p in
       let e : valueOf t r ≡ w = same-value (valueOf t r) w (y .reply) in
       rw e at (row-replies t q (sound-facts t q (a .whole .sound)) g f r (row-yes (store t q s) r (a .whole .arrays) (y .asked)))
-    where
-      same-value : (m n : ℕ) → value m ≡ value n → m ≡ n
-      same-value m n e = cc
+
+  new-is-free : NewIsFree t q h g
+  unfolding accepted valueOf packetOf askFree
+  new-is-free s x y w after p =
+      let k = value-accepted (store t q s) (row (cons x y)) w after (a .whole .sound) p in
+      let e : firstFree t ≡ w = same-value (firstFree t) w (k .reply) in
+      let c = sound-facts t q (a .whole .sound) in
+      let z = row-yes (store t q s) (cons x y) (a .whole .arrays) (k .asked) .free .0 in
+      rw e at (cons-case t (c .free) (c .chain) (chain-some t (c .free) (c .chain) z) x y
+      (λ u m. (i : ℕ) × (m .c ≡ suc i) × (i < capacity t) × (isFree t i ≡ true))
+      (λ new rest d. (new, refl, d .linked .1, not-in-use-free t new (was-free t (waiting q) c new rest d x y))))
+
+  held-by-holds : HeldByHolds t q h g
+  unfolding heldAtLeast
+  held-by-holds i n l =
+      let low = waitingChange root minus (suc i) (waiting q) + n in
+      let high = wordAt t i rootCount + waitingChange root plus (suc i) (waiting q) in
+      (λ e. omega (arith, a .roots i l, leb-true low high e), λ e. le-leb low high (omega (arith, a .roots i l)))
 
   drains : Drains t q h g
   drains ls j n e = (none, λ i l. (there i l, back i l))
@@ -158,7 +181,7 @@ module _ (t : List ℕ) (q : Queue) (h : ℕ → Holds) (g : ℕ → Fields) (a 
       (exists-some (capacity t) (isFree t) i l (not-in-use-free t i u)))) (tested (inUse t i)))
 
   relied : Relied t q h g
-  relied = record { fields-stand = f; reads-back = reads-back; drains = drains; full-of-held = full-of-held }
+  relied = record { fields-stand = f; reads-back = reads-back; new-is-free = new-is-free; held-by-holds = held-by-holds; drains = drains; full-of-held = full-of-held }
 
 pub reliable : Reliable
 reliable t q ls b j = relied (tableAfter t ls) (queueAfter q ls) (holdsAfter ls) (fieldsAfter ls) (covered t q ls b j) (fields-stand t q ls b j)

@@ -3,12 +3,13 @@ use mathlib.Core.Path.{_≡_}
 use mathlib.Core.Logic.{_↔_}
 use mathlib.Core.Bool.{true, cond}
 use mathlib.Core.List.{List, [], _∷_}
-use Prim.Native.Nat.{ℕ, suc, _≤_, _<_}
+use Prim.Native.Nat.{ℕ, suc, _+_, _≤_, _<_}
 use lib.Dec.{eqb}
 use lib.ListN.{length}
 use Rattle.machine.specs.declared.Queue.{Queue}
-use Rattle.machine.specs.Table.{left, right, capacity, scratchWords, wordAt, inUse}
+use Rattle.machine.specs.Table.{left, right, capacity, scratchWords, wordAt, inUse, isFree}
 use Rattle.machine.specs.Queue.{waiting}
+use Rattle.machine.specs.Counts.{heldAtLeast}
 use Rattle.machine.specs.Reached.{ReachedFrom}
 use Rattle.machine.specs.Calls.{Call, fresh, row, step, audit, RowCall, car, cdr, cons, setLeft, setRight, up, down}
 use Rattle.machine.specs.Calls.{Reply, value, refused, idle, applied, sound, broken, Store, store}
@@ -78,6 +79,15 @@ module _ (t : List ℕ) (q : Queue) (h : ℕ → Holds) (f : ℕ → Fields) whe
   abbrev pub ReadsBack : Type 0
   ReadsBack = (s : List ℕ) (r : RowCall) (w : ℕ) (after : Store) → Promise (store t q s) (row r) (value w) after → RepliesField f r w
 
+  -- The cell that an accepted cons replies was free: by demand 3 nobody could get to it.
+  abbrev pub NewIsFree : Type 0
+  NewIsFree = (s : List ℕ) (x y w : ℕ) (after : Store) → Promise (store t q s) (row (cons x y)) (value w) after
+      → (i : ℕ) × (w ≡ suc i) × (i < capacity t) × (isFree t i ≡ true)
+
+  -- A cell's held count, by which question 6 goes, is its holds: who keeps book of the calls and replies knows the answer beforehand.
+  abbrev pub HeldByHolds : Type 0
+  HeldByHolds = (i n : ℕ) → i < capacity t → (heldAtLeast t (waiting q) i n ≡ true) ↔ (h (suc i) .given + n ≤ h (suc i) .gained)
+
   -- As many steps as packets wait leave none waiting, and in use exactly the cells that were reached from held ones when the steps began.
   abbrev pub Drains : Type 0
   Drains = (ls : List Link) → Joined t q ls → Steps (scratchWords (capacity t)) ls → q .count ≤ length ls
@@ -92,6 +102,8 @@ module _ (t : List ℕ) (q : Queue) (h : ℕ → Holds) (f : ℕ → Fields) whe
   pub record Relied : Type 0 where
     pub fields-stand : FieldsStand t f
     pub reads-back : ReadsBack
+    pub new-is-free : NewIsFree
+    pub held-by-holds : HeldByHolds
     pub drains : Drains
     pub full-of-held : FullOfHeld
 
