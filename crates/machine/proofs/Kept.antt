@@ -32,6 +32,15 @@ pub machine-accepted : (s : Store) (call : Call) → firstNo (questions s call) 
 unfolding machine answered
 machine-accepted s call h = rw h
 
+-- what the machine gives, by whether a question says "no"
+pub machine-cases : (s : Store) (call : Call) (P : Outcome → Type 0) → (firstNo (questions s call) ≡ 0 → P (accepted s call))
+    → ((n : ℕ) → firstNo (questions s call) ≡ suc n → P (outcome (refused (suc n)) s)) → P (machine s call)
+machine-cases s call P accepts refuses = go (firstNo (questions s call)) refl
+  where
+    go : (n : ℕ) → firstNo (questions s call) ≡ n → P (machine s call)
+    go zero e = rw (machine-accepted s call e) (accepts e)
+    go (suc n) e = rw (machine-refused s call n e) (refuses n e)
+
 -- an accepted call does not refuse
 audit-not-refused : (k n : ℕ) → auditReply k ≡ refused n → ⊥
 unfolding auditReply
@@ -194,11 +203,8 @@ early-yes s call h = firstNo-all (early s call) (early-numbered s call) (go (fir
     go (suc k) e = absurd (omega (arith, firstNo-append (early s call) (late s call) k e))
 
 kept-bounded : (s : Store) (call : Call) → Bounded call s (machine s call .after)
-kept-bounded s call = go (firstNo (questions s call)) refl
-  where
-    go : (k : ℕ) → firstNo (questions s call) ≡ k → Bounded call s (machine s call .after)
-    go zero e = rw (machine-accepted s call e) (bounded-accepted s call (early-yes s call e))
-    go (suc k) e = rw (machine-refused s call k e) (bounded-same s call)
+kept-bounded s call =
+    machine-cases s call (λ o. Bounded call s (o .after)) (λ e. bounded-accepted s call (early-yes s call e)) (λ n e. bounded-same s call)
 
 -- the machine's own answer is what a call gives, and the other way round
 machine-gives : (s : Store) (call : Call) → Gives s call (machine s call .reply) (machine s call .after)

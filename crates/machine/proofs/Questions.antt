@@ -22,7 +22,7 @@ use Rattle.machine.specs.Calls.{car, cdr, cons, setLeft, setRight, up, d
 use Rattle.machine.specs.Questions.{Question, firstNo, earlyRow, early, inRange, scratchEnough}
 use Rattle.machine.specs.Facts.{Shape, Lent}
 use Rattle.machine.specs.Promise.{numbers}
-use Rattle.machine.proofs.Range.{tested, or-left, or-right, and-first, and-second}
+use Rattle.machine.proofs.Range.{tested, not-both, or-left, or-right, and-first, and-second}
 
 -- no question has the number 0, so that 0 says "none"
 abbrev pub Numbered : List Question → Type 0
@@ -74,6 +74,16 @@ firstNo-all (k ∷ ks) p h =
 pub firstNo-zero : (ks : List Question) → AllYes ks → firstNo ks ≡ 0
 firstNo-zero [] h = unfold firstNo in refl
 firstNo-zero (k ∷ ks) h = firstNo-yes k ks (h .0) ∙ firstNo-zero ks (h .1)
+
+-- every question with the number n says "yes": then n is not the first "no"
+abbrev pub YesAt : ℕ → List Question → Type 0
+YesAt n [] = Unit {0}
+YesAt n (k ∷ ks) = (k .number ≡ n → k .answer ≡ true) × YesAt n ks
+
+pub firstNo-other : (n : ℕ) (ks : List Question) → YesAt (suc n) ks → firstNo ks ≡ suc n → ⊥
+firstNo-other n [] p h = no-questions n h
+firstNo-other n (k ∷ ks) p h =
+    ⊎-elim (λ e. firstNo-other n ks (p .1) (sym (firstNo-yes k ks e) ∙ h)) (λ e. not-both (p .0 (sym (firstNo-no k ks e) ∙ h)) e) (tested (k .answer))
 
 pub early-numbered : (s : Store) (call : Call) → Numbered (early s call)
 unfolding early earlyRow

@@ -14,5 +14,6 @@ pub mod Facts
 pub mod Machine
 pub mod Answers
 pub mod Promise
+pub mod AuditedSound
 pub mod Counters
 pub mod Cases

@@ -1,15 +1,16 @@
 -- Every call of the machine leaves a sound store sound, accepted or refused; and an accepted fresh makes any store sound.
-use mathlib.Core.Path.{_≡_, refl}
+use mathlib.Core.Path.{_≡_, refl, sym}
 use mathlib.Core.Logic.{inl}
 use mathlib.Core.List.{List, [], _∷_}
-use Prim.Native.Nat.{ℕ, zero, suc, _≤_}
+use Prim.Native.Nat.{ℕ, suc, _≤_}
+use native.Mathlib.Omega.{arith}
 use lib.Dec.{leb}
 use lib.ListN.{length}
 use borrow.Author.Tests.{leb-true}
 use Rattle.machine.specs.Words.{mostCells}
 use Rattle.machine.specs.Table.{tableLength}
 use Rattle.machine.specs.Queue.{Packet, emptyQueue, waiting}
-use Rattle.machine.specs.Calls.{Call, fresh, row, step, audit, Reply, Store, packetOf, freshTable}
+use Rattle.machine.specs.Calls.{Call, fresh, row, step, audit, Reply, value, refused, Store, packetOf, freshTable}
 use Rattle.machine.specs.Step.{stepWith, stepFrom, stepped}
 use Rattle.machine.specs.Questions.{firstNo, cellsInRange, longEnough, early, questions}
 use Rattle.machine.specs.Audit.{Sound, audited}
@@ -17,7 +18,7 @@ use Rattle.machine.specs.Machine.{accepted, machine}
 use Rattle.machine.specs.Promise.{Decided, Promise}
 use Rattle.machine.proofs.Range.{and-first, and-second}
 use Rattle.machine.proofs.Ring.{arrays-appended, arrays-taken}
-use Rattle.machine.proofs.Kept.{machine-refused, machine-accepted, early-yes, gives-machine}
+use Rattle.machine.proofs.Kept.{machine-cases, early-yes, gives-machine}
 use Rattle.soundness.specs.Whole.{Whole}
 use Rattle.soundness.proofs.ZeroSlots.{arrays-empty}
 use Rattle.soundness.proofs.FreshSound.{fresh-sound}
@@ -58,11 +59,7 @@ accepted-whole s step w h = step-whole s w (waiting (s .queue)) refl
 accepted-whole s audit w h = w
 
 pub machine-whole : (s : Store) (call : Call) → Whole (s .table) (s .queue) → Whole (machine s call .after .table) (machine s call .after .queue)
-machine-whole s call w = go (firstNo (questions s call)) refl
-  where
-    go : (n : ℕ) → firstNo (questions s call) ≡ n → Whole (machine s call .after .table) (machine s call .after .queue)
-    go zero e = rw (machine-accepted s call e) (accepted-whole s call w e)
-    go (suc n) e = rw (machine-refused s call n e) w
+machine-whole s call w = machine-cases s call (λ o. Whole (o .after .table) (o .after .queue)) (accepted-whole s call w) (λ n e. w)
 
 -- on a sound store all that a call gives is decided
 pub decided : (s : Store) (call : Call) → Sound (s .table) (s .queue) → Decided s call
@@ -75,3 +72,18 @@ decided s audit h = tt
 pub promise-whole : (s : Store) (call : Call) (r : Reply) (after : Store) → Promise s call r after → Whole (s .table) (s .queue)
     → Whole (after .table) (after .queue)
 promise-whole s call r after p w = rw (gives-machine s call r after (p .exact (decided s call (w .sound))) .1) (machine-whole s call w)
+
+-- a call that replies a value was accepted
+pub record Accepted (s : Store) (call : Call) (w : ℕ) (u : Store) : Type 0 where
+  pub asked : firstNo (questions s call) ≡ 0
+  pub reply : accepted s call .reply ≡ value w
+  pub after : u ≡ accepted s call .after
+
+pub value-accepted : (s : Store) (call : Call) (w : ℕ) (after : Store) → Decided s call → Promise s call (value w) after → Accepted s call w after
+value-accepted s call w after d p =
+    let e = gives-machine s call (value w) after (p .exact d) in
+    machine-cases s call (λ o. value w ≡ o .reply → after ≡ o .after → Accepted s call w after)
+    (λ a r u. record { asked = a; reply = sym r; after = u }) (λ n a r u. absurd (no-value (suc n) r)) (e .0) (e .1)
+  where
+    no-value : (n : ℕ) → value w ≡ refused n → ⊥
+    no-value n h = let z : _≡_ {A = ℕ} 0 1 = cc in omega arith

@@ -62,23 +62,23 @@ module _ (t : List ℕ) (ps : List Packet) (f : Facts t ps) (new : ℕ) (rest : 
   long : 2 < length t
   long = let r = f .room in omega arith
 
-  same-capacity : capacity u ≡ capacity t
+  pub same-capacity : capacity u ≡ capacity t
   same-capacity = capacity-putCell ended new (newCell x y) refl ∙ capacity-putEnds t next last
 
   -- the new cell's words, and the others'
   new-word : (k : ℕ) → k < stride → wordAt u new k ≡ getD (newCell x y) k 0
   new-word k l = cell-word ended new (newCell x y) refl inside k l
 
-  new-left : wordAt u new left ≡ x
+  pub new-left : wordAt u new left ≡ x
   new-left = new-word left (omega arith)
 
-  new-right : wordAt u new right ≡ y
+  pub new-right : wordAt u new right ≡ y
   new-right = new-word right (omega arith)
 
   new-root : wordAt u new rootCount ≡ 1
   new-root = new-word rootCount (omega arith)
 
-  other : (i k : ℕ) → k < stride → i ≢ new → wordAt u i k ≡ wordAt t i k
+  pub other : (i k : ℕ) → k < stride → i ≢ new → wordAt u i k ≡ wordAt t i k
   other i k l d = cell-other ended new (newCell x y) refl i k l (λ e. d (sym e)) ∙ word-putEnds t next last i k
 
   is-new : (i : ℕ) → (i ≡ new) ⊎ (i ≢ new)
@@ -102,7 +102,7 @@ module _ (t : List ℕ) (ps : List Packet) (f : Facts t ps) (new : ℕ) (rest : 
       (λ _. omega (arith, new-root, free-zero t ps f new rootCount below was-free (omega arith) (omega arith), matching-same (suc new) (suc new) 1 refl))
       (λ i d _. omega (arith, other i rootCount (omega arith) d, matching-other (suc new) (suc i) 1 (λ e. d (omega arith))))
 
-  same-use : (i : ℕ) → i ≢ new → inUse u i ≡ inUse t i
+  pub same-use : (i : ℕ) → i ≢ new → inUse u i ≡ inUse t i
   unfolding inUse
   same-use i d = ap (ltb 0) (other i state (omega arith) d)
 

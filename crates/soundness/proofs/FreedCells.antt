@@ -123,6 +123,10 @@ module _ (t : List ℕ) (ps : List Packet) (f : Facts t ps) where
   used-live : (i : ℕ) → i < c → inUse u i ≡ true → live i ≡ true
   used-live i l h = sym (swept-use i l) ∙ h
 
+  -- they were in use before, with the same fields
+  pub swept-fields : (i : ℕ) → i < c → inUse u i ≡ true → (inUse t i ≡ true) × ((k : ℕ) → k ≤ right → wordAt u i k ≡ wordAt t i k)
+  swept-fields i l h = let e = used-live i l h in (live-used i e, λ k m. live-words i k l (omega arith) (omega arith) e)
+
   -- no root count changes: a dead cell is no root
   pub swept-root : (i : ℕ) → i < c → wordAt u i rootCount ≡ wordAt t i rootCount
   unfolding isRoot

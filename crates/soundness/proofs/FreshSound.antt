@@ -120,3 +120,10 @@ pub fresh-roots : (c : ℕ) (t : List ℕ) → tableLength c ≤ length t → (i
 fresh-roots c t room i l =
     let f = fresh-is c t room in
     f .zeros i rootCount (rw (f .newCapacity) at l) (omega arith) (omega arith)
+
+-- and no cell is in use
+pub fresh-unused : (c : ℕ) (t : List ℕ) → tableLength c ≤ length t → (i : ℕ) → i < capacity (freshTable c t) → inUse (freshTable c t) i ≡ false
+unfolding inUse
+fresh-unused c t room i l =
+    let f = fresh-is c t room in
+    le-ltb 0 (wordAt (freshTable c t) i state) (omega (arith, f .zeros i state (rw (f .newCapacity) at l) (omega arith) (omega arith)))

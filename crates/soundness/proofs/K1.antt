@@ -8,6 +8,7 @@ use Rattle.machine.specs.Cases.{unmade, K1-calls, K1-replies, K1-table}
 use Rattle.machine.proofs.Kept.{kept}
 use Rattle.machine.proofs.Cases.{K}
 use Rattle.soundness.specs.Demand3.{Link, Joined, Begun, tableAfter, queueAfter, holds, gains, gives, moved, Answered, answers, holdsFrom, holdsAfter, Clauses}
+use Rattle.soundness.specs.Reliable.{fields, puts, put, fieldsFrom, fieldsAfter}
 use Rattle.soundness.specs.Links.{linksOf}
 use Rattle.soundness.proofs.Theorem.{demand3}
 
@@ -63,3 +64,13 @@ K1-answers = answers-ran unmade K1-calls ∙ ap (answered K1-calls) K1-replied
 pub K1-holds : K1-Holds
 unfolding holdsFrom moved gains gives matching
 K1-holds = record { first = rw K1-answers; second = rw K1-answers; third = rw K1-answers }
+
+-- the fields that `Reliable` speaks of: what the two conses and the replace put, told without the table, also now that both cells are free
+pub record K1-Fields : Type 0 where
+  pub first : fieldsAfter K1-links 1 ≡ fields 0 32775
+  pub second : fieldsAfter K1-links 2 ≡ fields 1 2
+  pub third : fieldsAfter K1-links 3 ≡ fields 0 0
+
+pub K1-fields : K1-Fields
+unfolding fieldsFrom put puts
+K1-fields = record { first = rw K1-answers; second = rw K1-answers; third = rw K1-answers }

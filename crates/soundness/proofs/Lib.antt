@@ -35,3 +35,6 @@ pub mod RootsAreHolds
 pub mod Theorem
 pub mod K1
 pub mod ShortcutsBite
+-- what a row programmer can rely on
+pub mod FieldsStand
+pub mod Reliable

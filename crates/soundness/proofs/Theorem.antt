@@ -1,32 +1,31 @@
 -- Demand 3: the facts carried from call to call give every clause.
-use mathlib.Core.Path.{_≡_, refl, sym, ap, _∙_}
+use mathlib.Core.Path.{_≡_, refl}
 use mathlib.Core.Logic.{_⊎_, inl, inr, ⊎-elim}
 use mathlib.Core.Bool.{true, false, false≢true}
 use mathlib.Core.List.{List, [], _∷_}
-use Prim.Native.Nat.{ℕ, zero, suc, _≤_, _<_}
+use Prim.Native.Nat.{ℕ, suc, _<_}
 use native.Mathlib.Omega.{arith}
 use lib.Dec.{ltb}
-use lib.ListN.{length}
-use borrow.Author.Tests.{le-leb, ltb-true, eqb-true, eq-eqb}
+use borrow.Author.Tests.{ltb-true, eqb-true, eq-eqb}
 use Rattle.machine.specs.declared.Queue.{Queue}
-use Rattle.machine.specs.Table.{rootCount, capacity, scratchWords, wordAt, inUse, isFree}
+use Rattle.machine.specs.Table.{rootCount, capacity, wordAt, inUse, isFree}
 use Rattle.machine.specs.Queue.{Packet, waiting}
 use Rattle.machine.specs.Packets.{root, plus, minus, isNamed}
 use Rattle.machine.specs.Reached.{isRoot, begun, onward, Reached, ReachedFrom}
-use Rattle.machine.specs.Calls.{Call, fresh, row, step, audit, Reply, value, refused, sound, Store, store}
-use Rattle.machine.specs.Step.{Outcome, stepWith, stepFrom, stepped}
-use Rattle.machine.specs.Questions.{firstNo, scratchEnough, early, late, questions}
-use Rattle.machine.specs.Audit.{rules, auditReply, audited, Sound}
+use Rattle.machine.specs.Calls.{Call, fresh, row, step, audit, Reply, value, refused, Store, store}
+use Rattle.machine.specs.Step.{stepWith, stepFrom, stepped}
+use Rattle.machine.specs.Questions.{firstNo, questions}
+use Rattle.machine.specs.Audit.{audited}
 use Rattle.machine.specs.Machine.{accepted, machine}
 use Rattle.machine.specs.Promise.{Promise}
 use Rattle.machine.proofs.Range.{tested, or-true}
-use Rattle.machine.proofs.Questions.{firstNo-zero}
-use Rattle.machine.proofs.Kept.{machine-refused, machine-accepted, gives-machine}
+use Rattle.machine.proofs.Kept.{machine-cases, gives-machine}
+use Rattle.machine.proofs.AuditedSound.{audited-sound}
 use Rattle.soundness.specs.Demand3.{Link, Joined, Begun, tableAfter, queueAfter, Holds, holds, moved, answers, holdsFrom, holdsAfter, Held, NoneLost, NoneLeft, ExactWhenDone, Clauses, Demand3}
 use Rattle.soundness.proofs.PacketKinds.{unnamed-waiting}
 use Rattle.soundness.proofs.Facts.{Facts, sound-facts, sound-live}
 use Rattle.soundness.proofs.ReachedCells.{counted-used, pointed-used}
-use Rattle.soundness.proofs.CallSound.{decided}
+use Rattle.soundness.proofs.CallSound.{decided, value-accepted}
 use Rattle.soundness.proofs.CodeTests.{pointers-counted}
 use Rattle.soundness.proofs.RootsAreHolds.{Agrees, fresh-agrees, row-agrees, step-agrees}
 
@@ -54,12 +53,8 @@ accepted-agrees s audit h a e = a
 
 machine-agrees : (s : Store) (call : Call) (h : ℕ → Holds) → Agrees (s .table) (s .queue) h
     → Agrees (machine s call .after .table) (machine s call .after .queue) (λ x. moved x call (machine s call .reply) (h x))
-machine-agrees s call h a = go (firstNo (questions s call)) refl
-  where
-    go : (n : ℕ) → firstNo (questions s call) ≡ n
-        → Agrees (machine s call .after .table) (machine s call .after .queue) (λ x. moved x call (machine s call .reply) (h x))
-    go zero e = rw (machine-accepted s call e) (accepted-agrees s call h a e)
-    go (suc n) e = rw (machine-refused s call n e) (refused-agrees (s .table) (s .queue) h call (suc n) a)
+machine-agrees s call h a = machine-cases s call (λ o. Agrees (o .after .table) (o .after .queue) (λ x. moved x call (o .reply) (h x)))
+    (accepted-agrees s call h a) (λ n e. refused-agrees (s .table) (s .queue) h call (suc n) a)
 
 -- whoever keeps the promise carries them on too, since on a sound store all that a call gives is decided
 pub promise-agrees : (s : Store) (call : Call) (r : Reply) (after : Store) (h : ℕ → Holds) → Promise s call r after → Agrees (s .table) (s .queue) h
@@ -69,18 +64,9 @@ promise-agrees s call r after h p a =
     rw (e .0, e .1) (machine-agrees s call h a)
 
 -- an accepted fresh of any store starts them
-begun-agrees : (s : Store) (c w : ℕ) (r : Reply) (after : Store) → Promise s (fresh c) r after → r ≡ value w → Agrees (after .table) (after .queue) (λ x. holds 0 0)
-begun-agrees s c w r after p v = go (firstNo (questions s (fresh c))) refl
-  where
-    e : (r ≡ machine s (fresh c) .reply) × (after ≡ machine s (fresh c) .after)
-    e = gives-machine s (fresh c) r after (p .exact tt)
-
-    not-value : (n : ℕ) → refused n ≡ value w → ⊥
-    not-value n d = let z : _≡_ {A = ℕ} 0 1 = cc in omega arith
-
-    go : (n : ℕ) → firstNo (questions s (fresh c)) ≡ n → Agrees (after .table) (after .queue) (λ x. holds 0 0)
-    go zero d = rw (e .1, machine-accepted s (fresh c) d) (unfold accepted in fresh-agrees s c d)
-    go (suc n) d = absurd (not-value (suc n) (sym (ap (λ (o : Outcome). o .reply) (machine-refused s (fresh c) n d)) ∙ sym (e .0) ∙ v))
+begun-agrees : (s : Store) (c w : ℕ) (after : Store) → Promise s (fresh c) (value w) after → Agrees (after .table) (after .queue) (λ x. holds 0 0)
+unfolding accepted
+begun-agrees s c w after p = let a = value-accepted s (fresh c) w after tt p in rw (a .after) (fresh-agrees s c (a .asked))
 
 links-agree : (t : List ℕ) (q : Queue) (h : ℕ → Holds) (ls : List Link) → Agrees t q h → Joined t q ls
     → Agrees (tableAfter t ls) (queueAfter q ls) (λ x. holdsFrom (h x) (answers ls) x)
@@ -89,20 +75,6 @@ links-agree t q h [] a j = a
 links-agree t q h (l ∷ ls) a j =
     links-agree (l .after .table) (l .after .queue) (λ x. moved x (l .call) (l .reply) (h x)) ls
     (promise-agrees (store t q (l .scratch)) (l .call) (l .reply) (l .after) h (j .0) a) (j .1)
-
--- a store that is sound audits so
-module _ (t : List ℕ) (q : Queue) (s : List ℕ) (h : Sound t q) (l : scratchWords (capacity t) ≤ length s) where
-  audit-asked : firstNo (questions (store t q s) audit) ≡ 0
-  unfolding questions early late scratchEnough
-  audit-asked = firstNo-zero (questions (store t q s) audit) (h .shape, (le-leb (scratchWords (capacity t)) (length s) l, tt))
-
-  rules-kept : firstNo (rules t q) ≡ 0
-  unfolding rules
-  rules-kept = firstNo-zero (rules t q) (h .cells, (h .chain, (h .packets, (h .pointed, (h .live, tt)))))
-
-  pub audit-sound : machine (store t q s) audit .reply ≡ sound
-  unfolding accepted audited auditReply
-  audit-sound = ap (λ (o : Outcome). o .reply) (machine-accepted (store t q s) audit audit-asked) ∙ ap auditReply rules-kept
 
 -- the clauses
 module _ (t : List ℕ) (q : Queue) (h : ℕ → Holds) (a : Agrees t q h) where
@@ -116,7 +88,7 @@ module _ (t : List ℕ) (q : Queue) (h : ℕ → Holds) (a : Agrees t q h) where
   held-used : (i : ℕ) → i < capacity t → Held t q h i → inUse t i ≡ true
   held-used i l g = counted-used t ps f i l (omega (arith, a .roots i l))
 
-  from-held : (j : ℕ) → Held t q h j → {i : ℕ} → ReachedFrom t j i → (i < capacity t) × (inUse t i ≡ true)
+  pub from-held : (j : ℕ) → Held t q h j → {i : ℕ} → ReachedFrom t j i → (i < capacity t) × (inUse t i ≡ true)
   from-held j g (begun {i = i} l e) = let d : j ≡ i = eqb-true j i e in (l, held-used i l (rw d at g))
   from-held j g (onward {j = k} {i = i} r l e) = let w = from-held j g r in (l, pointed-used t ps f k i (w .0) l (w .1) e)
 
@@ -144,7 +116,7 @@ module _ (t : List ℕ) (q : Queue) (h : ℕ → Holds) (a : Agrees t q h) where
       let w = from-root (sound-live t q (a .whole .sound) i l e) in
       (w .0, root-held (w .0) (w .1) (w .2), w .3)
 
-  exact-when-done : ExactWhenDone t q h
+  pub exact-when-done : ExactWhenDone t q h
   exact-when-done z i l = (there, λ w. from-held (w .0) (w .1) (w .2) .1)
     where
       none : (x : ℕ) → isNamed ps x ≡ true → ⊥
@@ -161,7 +133,7 @@ module _ (t : List ℕ) (q : Queue) (h : ℕ → Holds) (a : Agrees t q h) where
     none-lost = none-lost;
     none-left = none-left;
     exact-when-done = exact-when-done;
-    audits-sound = λ s r after l p. gives-machine (store t q s) audit r after (p .exact tt) .0 ∙ audit-sound t q s (a .whole .sound) l;
+    audits-sound = λ s r after l p. audited-sound t q s r after p .1 (a .whole .sound, l);
   }
 
 -- every list that demand 3 covers carries the facts, a sound store among them, to its end
@@ -170,7 +142,7 @@ unfolding moved holdsFrom
 covered t q [] b j = absurd b
 covered t q (l ∷ ls) b j =
     links-agree (l .after .table) (l .after .queue) (λ x. moved x (l .call) (l .reply) (holds 0 0)) ls
-    (rw (b .2, b .3) (begun-agrees (store t q (l .scratch)) (b .0) (b .1) (l .reply) (l .after) (rw (b .2) at (j .0)) (b .3))) (j .1)
+    (rw (b .2, b .3) (begun-agrees (store t q (l .scratch)) (b .0) (b .1) (l .after) (rw (b .2, b .3) at (j .0)))) (j .1)
 
 pub demand3 : Demand3
 demand3 t q ls b j = clauses (tableAfter t ls) (queueAfter q ls) (holdsAfter ls) (covered t q ls b j)

@@ -1,5 +1,6 @@
 -- What is proved of the machine over lists of calls.
 pub mod Demand3
+pub mod Reliable
 pub mod Untrimmed
 pub mod Links
 pub mod Whole

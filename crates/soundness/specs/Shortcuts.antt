@@ -1,5 +1,5 @@
--- "Shortcuts that lose cells": beside the right machine a variant for each, and one with no protection by packets at all, with a short list of
--- calls from fresh after which it breaks a named clause of demand 3. Proved by computation in proofs/ShortcutsBite.
+-- "Shortcuts that lose cells": beside the right machine a variant for each, one with no protection by packets at all, and one that frees nothing,
+-- with a short list of calls from fresh after which it breaks a named clause of demand 3. Proved by computation in proofs/ShortcutsBite.
 use mathlib.Core.Bool.{Bool, cond, not, _&&_, _||_}
 use mathlib.Core.List.{List, [], _∷_}
 use Prim.Native.Nat.{ℕ, zero, suc, pred, _+_, _-_, min}
@@ -18,7 +18,7 @@ use Rattle.machine.specs.Step.{counterWord, moveCount, applyChanges, unreached,
 use Rattle.machine.specs.Questions.{Question, ask, firstNo, questions}
 use Rattle.machine.specs.Machine.{accepted}
 use Rattle.machine.specs.Cases.{unmade}
-use Rattle.soundness.specs.Demand3.{Holds, tableAfter, queueAfter, holdsAfter, NoneOwed, CellsArePointers, NoneLost}
+use Rattle.soundness.specs.Demand3.{Holds, tableAfter, queueAfter, holdsAfter, NoneOwed, RootsAreHolds, CellsArePointers, NoneLost, NoneLeft, ExactWhenDone, AuditsSound}
 use Rattle.soundness.specs.Links.{linksOf}
 
 -- the parts in which a variant may differ from the machine
@@ -132,7 +132,7 @@ asksOneHold s audit = questions s audit
 abbrev pub oneHoldForBoth : Parts
 oneHoldForBoth = record { asks = asksOneHold; applies = λ t p ps. applyChanges t (changes p); dead = unreached; frees = swept }
 
--- one hold is given up twice
+-- one hold is given up twice, more than was gained: `NoneOwed` breaks at once, before any cell is lost
 abbrev pub oneHoldForBoth-calls : List Call
 oneHoldForBoth-calls = fresh 3 ∷ row (cons 0 0) ∷ row (cons 1 1) ∷ []
 
@@ -159,10 +159,22 @@ unprotected = record {
 abbrev pub unprotected-calls : List Call
 unprotected-calls = fresh 3 ∷ row (cons 0 0) ∷ row (cons 1 0) ∷ row (up 2 1) ∷ row (car 2) ∷ row (setLeft 2 0) ∷ step ∷ step ∷ []
 
+-- "A step that applies packets and frees nothing".
+abbrev pub freesNothing : Parts
+freesNothing = record { asks = questions; applies = λ t p ps. applyChanges t (changes p); dead = λ t ps. []; frees = swept }
+
+-- cell 1 is let go, and no packet waits any more
+abbrev pub freesNothing-calls : List Call
+freesNothing-calls = fresh 3 ∷ row (cons 0 0) ∷ row (down 1 1) ∷ step ∷ step ∷ []
+
 pub record ShortcutsBite : Type 0 where
   pub held-at-ceiling : Breaks heldAtCeiling heldAtCeiling-calls NoneLost
+  pub held-at-ceiling-counts : Breaks heldAtCeiling heldAtCeiling-calls RootsAreHolds
   pub named-as-dead : Breaks namedAsDead namedAsDead-calls NoneLost
   pub freed-in-between : Breaks freedInBetween freedInBetween-calls NoneLost
   pub one-hold-for-both : Breaks oneHoldForBoth oneHoldForBoth-calls NoneOwed
   pub children-left : Breaks childrenLeft childrenLeft-calls CellsArePointers
   pub unprotected : Breaks unprotected unprotected-calls NoneLost
+  pub frees-nothing : Breaks freesNothing freesNothing-calls NoneLeft
+  pub frees-nothing-done : Breaks freesNothing freesNothing-calls ExactWhenDone
+  pub frees-nothing-audit : Breaks freesNothing freesNothing-calls AuditsSound
