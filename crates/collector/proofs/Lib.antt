@@ -2,5 +2,4 @@
 pub mod Changes
 pub mod SweepPass
 pub mod SweepLoop
-pub mod ShortWay
 pub mod StepContract

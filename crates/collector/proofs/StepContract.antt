@@ -5,14 +5,14 @@ use mathlib.Core.Bool.{Bool, true, false, cond, not, _&&_, and-comm}
 use mathlib.Core.List.{List, [], _∷_}
 use Prim.Native.Nat.{ℕ, suc, pred, _<_}
 use native.Mathlib.Omega.{arith}
-use lib.ListN.{length}
+use lib.ListN.{length, getD}
 use Rattle.machine.specs.declared.Queue.{Queue}
 use Rattle.machine.specs.declared.Refusal.{Refusal}
 use Rattle.machine.specs.declared.StepAnswer
 use Rattle.machine.specs.declared.StepAnswer.{StepAnswer}
 use Rattle.machine.specs.Range.{select}
 use Rattle.machine.specs.Table.{capacity, scratchWords, inUse}
-use Rattle.machine.specs.Queue.{Packet, packet, putSlot, packetsFrom, waiting, taken}
+use Rattle.machine.specs.Queue.{Packet, packet, slot, putSlot, packetsFrom, waiting, taken}
 use Rattle.machine.specs.Packets.{Change, kindOf, changesOf, changes}
 use Rattle.machine.specs.Reached.{reached}
 use Rattle.machine.specs.Calls.{step, refused, idle, applied, store}
@@ -29,7 +29,7 @@ use Rattle.machine.proofs.Sweep.{sweeps}
 use Rattle.machine.proofs.Answers.{refusal-some}
 use Rattle.machine.proofs.Questions.{asked-lent}
 use Rattle.machine.proofs.Kept.{Framed, framed-changes}
-use Rattle.marks.specs.Names.{stayRoots}
+use Rattle.machine.specs.ShortWay.{watchedOf, watched, staysRoot}
 use Rattle.marks.specs.Marks.{isMarked, Marks}
 use Rattle.collector.specs.declared.Stepped.{Stepped}
 use Rattle.collector.specs.Changes.{tooLarge, moveFitting, applyFitting}
@@ -37,7 +37,6 @@ use Rattle.collector.specs.SweepPass.{isDead, Sweeps}
 use Rattle.collector.specs.Steps.{oldest, Premises, collected, freedNumber, Collects, Applies, Steps}
 use Rattle.collector.proofs.Changes.{apply-fits, shape-fitting}
 use Rattle.collector.proofs.SweepPass.{select-same}
-use Rattle.collector.proofs.ShortWay.{nothing-freed}
 
 -- mark and sweep
 pub collects : (t : List ℕ) (ps : List Packet) (s s₁ t′ s′ : List ℕ) (c n : ℕ)
@@ -82,9 +81,12 @@ module _ (t : List ℕ) (q : Queue) (s : List ℕ) (h : Lent t q s) (some : 0 < 
   abbrev t₁ : List ℕ
   t₁ = applyFitting t (changes p)
 
+  abbrev stays : Bool
+  stays = staysRoot t₁ ps (watched p)
+
   framed-collected : Framed t (collected t₁ ps p)
   unfolding collected
-  framed-collected = go (stayRoots t₁ ps p)
+  framed-collected = go stays
     where
       f : Framed t t₁
       f = framed-fitting t (changes p)
@@ -106,21 +108,21 @@ module _ (t : List ℕ) (q : Queue) (s : List ℕ) (h : Lent t q s) (some : 0 < 
   oldest-first = waiting-taken q (pred (q .count)) (h .shape .queue .place) (h .shape .queue .count) (omega arith)
 
   -- on a store that meets the premises the short way gives what the long way gives
-  nothing : Premises t q → stayRoots t₁ ps p ≡ true → unreached t₁ ps ≡ []
+  nothing : Premises t q → stays ≡ true → unreached t₁ ps ≡ []
   nothing m e =
       let fit = apply-fits t (changes p) (m .fit) in
-      rw fit (nothing-freed t p ps (h .shape .table .room) (rw fit at e) (rw oldest-first at (m .live)))
+      rw fit (m .still (rw fit at e))
 
   collected-is : Premises t q → collected t₁ ps p ≡ swept t₁ (unreached t₁ ps)
   unfolding collected
   collected-is m =
-      ⊎-elim (λ (e : stayRoots t₁ ps p ≡ true). rw (e, nothing m e) (unfold swept joinAll lowerPointers in refl))
-      (λ (e : stayRoots t₁ ps p ≡ false). rw e) (tested (stayRoots t₁ ps p))
+      ⊎-elim (λ (e : stays ≡ true). rw (e, nothing m e) (unfold swept joinAll lowerPointers in refl))
+      (λ (e : stays ≡ false). rw e) (tested stays)
 
   number-is : Premises t q → freedNumber t₁ ps p ≡ length (unreached t₁ ps)
   unfolding freedNumber
   number-is m =
-      ⊎-elim (λ (e : stayRoots t₁ ps p ≡ true). rw (e, nothing m e)) (λ (e : stayRoots t₁ ps p ≡ false). rw e) (tested (stayRoots t₁ ps p))
+      ⊎-elim (λ (e : stays ≡ true). rw (e, nothing m e)) (λ (e : stays ≡ false). rw e) (tested stays)
 
   stepped-is : stepped (store t q s) ≡ stepWith (store t q s) p ps
   unfolding stepped
@@ -195,6 +197,10 @@ module _ (t : List ℕ) (q : Queue) (s : List ℕ) where
       f : Framed t (collected (applyFitting t (changes (oldest q))) (waiting (taken q)) (oldest q))
       f = framed-collected t q s h some
 
+pub oldest-read : (q : Queue) → packet (getD (q .kinds) (q .place) 0) (getD (q .a) (q .place) 0) (getD (q .b) (q .place) 0) (getD (q .c) (q .place) 0) ≡ oldest q
+unfolding slot
+oldest-read q = refl
+
 -- the packet read and applied, and the queue behind it
 module _ (t : List ℕ) (q : Queue) (s : List ℕ) (h : Lent t q s) (k a b d : ℕ) (e : packet k a b d ≡ oldest q) (t₁ : List ℕ)
     (f : t₁ ≡ applyFitting t (changesOf (kindOf k) a b)) (rest : Queue) (g : rest ≡ taken q) where
@@ -218,28 +224,28 @@ module _ (t : List ℕ) (q : Queue) (s : List ℕ) (h : Lent t q s) (k a b d : �
   kind-is : k ≡ oldest q .kind
   kind-is = ap (λ (p : Packet). p .kind) e
 
-  abbrev stays : Bool
-  stays = stayRoots t₁ (waiting rest) (packet k a b d)
+  -- what was asked of the watched word
+  module _ (w : ℕ) (v : w ≡ watchedOf (kindOf k) a b d) (o : Bool) (u : o ≡ staysRoot t₁ (waiting rest) w) where
+    stays-is : (x : Bool) → o ≡ x → staysRoot (applyFitting t (changes (oldest q))) (waiting (taken q)) (watched (oldest q)) ≡ x
+    unfolding watched
+    stays-is x y = rw (applied-oldest, g, v ∙ ap watched e) at (sym u ∙ y)
 
-  stays-is : (o x : Bool) → o ≡ stays → o ≡ x → stayRoots (applyFitting t (changes (oldest q))) (waiting (taken q)) (oldest q) ≡ x
-  stays-is o x u y = rw (applied-oldest, g, e) at (sym u ∙ y)
+    pub short : o ≡ true → (c : ℕ) → c ≡ capacity t → (s′ : List ℕ) → s′ ≡ cleared (scratchWords c) s → (r : Stepped)
+        → r .answer ≡ StepAnswer.Applied k 0 → r .queue ≡ rest
+        → Applies t q s r t₁ s′
+    short x c i s′ y r z j = record {
+      table = applied-oldest ∙ (unfold collected in rw (stays-is true x));
+      answer = z ∙ (unfold freedNumber in rw (stays-is true x, kind-is));
+      queue = j ∙ g;
+      scratch = y ∙ ap (λ (n : ℕ). cleared (scratchWords n) s) i;
+    }
 
-  pub short : (o : Bool) → o ≡ stays → o ≡ true → (c : ℕ) → c ≡ capacity t → (s′ : List ℕ) → s′ ≡ cleared (scratchWords c) s → (r : Stepped)
-      → r .answer ≡ StepAnswer.Applied k 0 → r .queue ≡ rest
-      → Applies t q s r t₁ s′
-  short o u x c i s′ y r z w = record {
-    table = applied-oldest ∙ (unfold collected in rw (stays-is o true u x));
-    answer = z ∙ (unfold freedNumber in rw (stays-is o true u x, kind-is));
-    queue = w ∙ g;
-    scratch = y ∙ ap (λ (n : ℕ). cleared (scratchWords n) s) i;
-  }
-
-  pub long : (o : Bool) → o ≡ stays → o ≡ false → (t′ s′ : List ℕ) (n : ℕ) → Collects t₁ (waiting rest) s t′ s′ n → (r : Stepped)
-      → r .answer ≡ StepAnswer.Applied k n → r .queue ≡ rest
-      → Applies t q s r t′ s′
-  long o u x t′ s′ n y r z w = record {
-    table = y .table ∙ rw (applied-oldest, g) (unfold collected in rw (stays-is o false u x));
-    answer = z ∙ rw (y .number, applied-oldest, g, kind-is) (unfold freedNumber in rw (stays-is o false u x));
-    queue = w ∙ g;
-    scratch = y .scratch ∙ ap (λ (m : ℕ). cleared (scratchWords m) s) capacity-is;
-  }
+    pub long : o ≡ false → (t′ s′ : List ℕ) (n : ℕ) → Collects t₁ (waiting rest) s t′ s′ n → (r : Stepped)
+        → r .answer ≡ StepAnswer.Applied k n → r .queue ≡ rest
+        → Applies t q s r t′ s′
+    long x t′ s′ n y r z j = record {
+      table = y .table ∙ rw (applied-oldest, g) (unfold collected in rw (stays-is false x));
+      answer = z ∙ rw (y .number, applied-oldest, g, kind-is) (unfold freedNumber in rw (stays-is false x));
+      queue = j ∙ g;
+      scratch = y .scratch ∙ ap (λ (m : ℕ). cleared (scratchWords m) s) capacity-is;
+    }

@@ -1,7 +1,7 @@
 -- The step's contract, for any table, queue and scratch.
 use mathlib.Core.Path.{_≡_}
 use mathlib.Core.Bool.{true, cond}
-use mathlib.Core.List.{List}
+use mathlib.Core.List.{List, []}
 use Prim.Native.Nat.{ℕ, suc, _<_}
 use lib.ListN.{length}
 use Rattle.machine.specs.declared.Queue.{Queue}
@@ -11,30 +11,31 @@ use Rattle.machine.specs.Table.{capacity, scratchWords}
 use Rattle.machine.specs.Queue.{Packet, slot, waiting, taken}
 use Rattle.machine.specs.Packets.{changes}
 use Rattle.machine.specs.Calls.{step, refused, idle, applied, store}
-use Rattle.machine.specs.Step.{unreached, swept, cleared, outcome, stepped}
+use Rattle.machine.specs.Step.{applyChanges, unreached, swept, cleared, outcome, stepped}
 use Rattle.machine.specs.Questions.{firstNo, early}
-use Rattle.machine.specs.Audit.{allReached}
+use Rattle.machine.specs.ShortWay.{watched, staysRoot}
 use Rattle.machine.specs.Answers.{stepReply}
 use Rattle.machine.specs.Promise.{Untouched}
 use Rattle.collector.specs.declared.Stepped.{Stepped}
 use Rattle.collector.specs.Changes.{applyFitting, ChangesFit}
-use Rattle.marks.specs.Names.{stayRoots}
 
 -- the oldest packet
 abbrev pub oldest : Queue → Packet
 oldest q = slot q (q .place)
 
--- What a sound store gives a step: each change of the oldest packet fits its counter, and every cell in use is reached before.
+-- What a sound store gives a step: each change of the oldest packet fits its counter, and after them every cell in use is reached where the packet's
+-- watched word is no cell or still a root.
 pub record Premises (t : List ℕ) (q : Queue) : Type 0 where
   pub fit : ChangesFit t (changes (oldest q))
-  pub live : allReached t (waiting q) ≡ true
+  pub still : (staysRoot (applyChanges t (changes (oldest q))) (waiting (taken q)) (watched (oldest q)) ≡ true
+      → unreached (applyChanges t (changes (oldest q))) (waiting (taken q)) ≡ [])
 
--- the table t with the packet p's changes made and ps waiting: nothing is freed where the cells that p names are still roots
+-- the table t with the packet p's changes made and ps waiting: nothing is freed where p's watched word is no cell or still a root
 unfoldable pub collected : List ℕ → List Packet → Packet → List ℕ
-collected t ps p = cond (stayRoots t ps p) t (swept t (unreached t ps))
+collected t ps p = cond (staysRoot t ps (watched p)) t (swept t (unreached t ps))
 
 unfoldable pub freedNumber : List ℕ → List Packet → Packet → ℕ
-freedNumber t ps p = cond (stayRoots t ps p) 0 (length (unreached t ps))
+freedNumber t ps p = cond (staysRoot t ps (watched p)) 0 (length (unreached t ps))
 
 -- what mark and sweep give on any store past questions 1 and 2
 pub record Collects (t : List ℕ) (ps : List Packet) (s t′ s′ : List ℕ) (n : ℕ) : Type 0 where

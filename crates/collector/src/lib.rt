@@ -28,28 +28,29 @@ fn collect(table: &mut [u16], queue: Queue, scratch: &mut [u16]) -> u16
     freed
 }
 
-// A packet waits: the oldest is applied and leaves the queue. Where each cell that it names is still a root, nothing can be freed on a sound
+// A packet waits: the oldest is applied and leaves the queue. Where its watched word is no cell or still a root, nothing can be freed on a sound
 // store, and mark and sweep are skipped.
 fn apply_oldest(table: &mut [u16], queue: Queue, scratch: &mut [u16]) -> Stepped
     requires { ⌜ Lent (now table) queue (now scratch) × (0 < queue .count) ⌝ }
     ensures { λ r. ⌜ Applies (now (table .entry)) queue (now (scratch .entry)) r (now (table .exit)) (now (scratch .exit)) ⌝ }
 {
-    let c = cells::capacity_of(table);
+    let capacity = cells::capacity_of(table);
     let place = queue.place;
-    let p = queue::packet_at(queue, place as usize);
+    let j = place as usize;
+    let kind = queue.kinds[j];
+    let a = queue.a[j];
+    let b = queue.b[j];
+    let watched = marks::roots::watched_of(kind, a, b, queue.c[j]);
     let rest = queue::take(queue);
-    counts::apply(table, p.kind, p.a, p.b);
+    counts::apply(table, kind, a, b);
     let mut freed: u16 = 0;
-    if marks::roots::stay_roots(table, rest, p.kind, p.a, p.b, p.c) {
-        marks::clear(scratch, c);
+    if marks::roots::stays_root(table, rest, watched) {
+        marks::clear(scratch, capacity);
     } else {
         freed = collect(table, rest, scratch);
     }
     Stepped {
-        answer: StepAnswer::Applied {
-            kind: p.kind,
-            freed,
-        },
+        answer: StepAnswer::Applied { kind, freed },
         queue: rest,
     }
 }

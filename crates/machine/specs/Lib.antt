@@ -17,3 +17,4 @@ pub mod Promise
 pub mod AuditedSound
 pub mod Counters
 pub mod Cases
+pub mod ShortWay

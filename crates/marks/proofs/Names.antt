@@ -1,6 +1,8 @@
 -- Laws of the words that packets name, and of roots.
 use mathlib.Core.Path.{_≡_, refl, sym, ap, _∙_}
-use mathlib.Core.Bool.{Bool, true, false, _||_, and-true, or-false}
+use mathlib.Core.Logic.{⊎-elim}
+use mathlib.Core.Bool.{Bool, true, false, _||_}
+use mathlib.Core.Bool.{or-false as or-none}
 use mathlib.Core.List.{List, [], _∷_, _++_}
 use Prim.Native.Nat.{ℕ, zero, suc, _+_, _-_, _%_, _≤_}
 use native.Mathlib.Omega.{arith}
@@ -8,16 +10,17 @@ use native.Mathlib.Numerals.{add-one, sub-one}
 use lib.Dec.{ltb, eqb}
 use borrow.Author.Tests.{eq-eqb, ne-eqb}
 use Rattle.machine.specs.declared.Queue.{Queue}
-use Rattle.machine.specs.Range.{everyOf}
 use Rattle.machine.specs.Words.{isCell}
 use Rattle.machine.specs.Table.{rootCount, capacity, wordAt}
 use Rattle.machine.specs.Queue.{Packet, slots, slot, packetsFrom}
 use Rattle.machine.specs.Packets.{Kind, reads, makes, replaces, raises, lowers, unknown, kindOf, namesOf, names, contains, isNamed}
 use Rattle.machine.specs.Reached.{isRoot}
+use Rattle.machine.specs.ShortWay.{watchedOf, staysRoot}
+use Rattle.machine.proofs.Range.{tested, or-false}
 use Rattle.machine.proofs.Words.{cell-number}
 use Rattle.machine.proofs.Ring.{packets-snoc}
 use Rattle.queue.proofs.Totals.{kind-unknown}
-use Rattle.marks.specs.Names.{threeOf, threeNames, staysRoot}
+use Rattle.marks.specs.Names.{threeOf, threeNames}
 
 -- the three words by the kind's number
 pub three-all : (k a b c : ℕ) → 1 ≤ k → k ≤ 3 → a ∷ b ∷ c ∷ [] ≡ threeOf (kindOf k) a b c
@@ -48,6 +51,13 @@ three-none k a b c f =
     rw (kind-unknown k (λ e. f (omega arith) (omega arith)) (λ e. f (omega arith) (omega arith)) (λ e. f (omega arith) (omega arith))
     (λ e. f (omega arith) (omega arith)) (λ e. f (omega arith) (omega arith)) (λ e. f (omega arith) (omega arith)))
 
+-- the watched word of the kinds that the code does not tell apart
+pub watched-none : (k a b c : ℕ) → (k ≡ 1 → ⊥) → (k ≡ 2 → ⊥) → (k ≡ 3 → ⊥) → (k ≡ 5 → ⊥) → (k ≡ 6 → ⊥) → 0 ≡ watchedOf (kindOf k) a b c
+unfolding kindOf watchedOf
+watched-none k a b c d e f g h =
+    rw (ne-eqb k 1 d, ne-eqb k 2 e, ne-eqb k 3 f, ne-eqb k 5 g, ne-eqb k 6 h)
+    (⊎-elim (λ (x : eqb k 4 ≡ true). rw x) (λ (x : eqb k 4 ≡ false). rw x) (tested (eqb k 4)))
+
 -- nil pads what is named
 none-named : (w : ℕ) → 1 ≤ w → eqb 0 w ≡ false
 none-named w h = ne-eqb 0 w (omega arith)
@@ -65,23 +75,39 @@ pub contains-three : (p : Packet) (w : ℕ) → 1 ≤ w → contains (threeNames
 unfolding threeNames names
 contains-three p w h = contains-of (kindOf (p .kind)) (p .a) (p .b) (p .c) w h
 
+-- what is not among the three words is not among those of them that are named
+pub none-of-three : (k : Kind) (a b c w : ℕ) → 1 ≤ w → contains (a ∷ b ∷ c ∷ []) w ≡ false → contains (threeOf k a b c) w ≡ false
+unfolding threeOf
+none-of-three reads a b c w h e = e
+none-of-three makes a b c w h e = e
+none-of-three (replaces field) a b c w h e = e
+none-of-three raises a b c w h e = unfold contains in rw (or-false (eqb a w) _ e .0, none-named w h)
+none-of-three lowers a b c w h e = unfold contains in rw (or-false (eqb a w) _ e .0, none-named w h)
+none-of-three unknown a b c w h e = unfold contains in rw (none-named w h)
+
 -- one word after the other
-module _ (x y z w : ℕ) (ws : List ℕ) (e : x ∷ y ∷ z ∷ [] ≡ ws) (found : Bool) (f : found ≡ false) where
-  pub or-first : x ≡ w → true ≡ found || contains ws w
+module _ (x y z w : ℕ) where
+  pub among-first : x ≡ w → true ≡ contains (x ∷ y ∷ z ∷ []) w
   unfolding contains
-  or-first h = rw (f, ← e, eq-eqb x w h)
+  among-first h = rw (eq-eqb x w h)
 
-  pub or-second : (x ≡ w → ⊥) → y ≡ w → true ≡ found || contains ws w
+  pub among-second : (x ≡ w → ⊥) → y ≡ w → true ≡ contains (x ∷ y ∷ z ∷ []) w
   unfolding contains
-  or-second d h = rw (f, ← e, ne-eqb x w d, eq-eqb y w h)
+  among-second d h = rw (ne-eqb x w d, eq-eqb y w h)
 
-  pub or-third : (x ≡ w → ⊥) → (y ≡ w → ⊥) → eqb z w ≡ found || contains ws w
+  pub among-third : (x ≡ w → ⊥) → (y ≡ w → ⊥) → eqb z w ≡ contains (x ∷ y ∷ z ∷ []) w
   unfolding contains
-  or-third d g = rw (f, ← e, ne-eqb x w d, ne-eqb y w g) (sym (or-false (eqb z w)))
+  among-third d g = rw (ne-eqb x w d, ne-eqb y w g) (sym (or-none (eqb z w)))
+
+  pub or-among : (found r : Bool) (ws : List ℕ) → found ≡ false → x ∷ y ∷ z ∷ [] ≡ ws → r ≡ contains (x ∷ y ∷ z ∷ []) w → r ≡ found || contains ws w
+  or-among found r ws f e h = rw (f, ← e) h
+
+  pub or-none-of-three : (found : Bool) (k : Kind) → found ≡ false → 1 ≤ w → contains (x ∷ y ∷ z ∷ []) w ≡ false → false ≡ found || contains (threeOf k x y z) w
+  or-none-of-three found k f l e = rw (f, none-of-three k x y z w l e)
 
 isNamed-snoc : (ps : List Packet) (p : Packet) (w : ℕ) → isNamed (ps ++ (p ∷ [])) w ≡ isNamed ps w || contains (names p) w
 unfolding isNamed
-isNamed-snoc [] p w = or-false (contains (names p) w)
+isNamed-snoc [] p w = or-none (contains (names p) w)
 isNamed-snoc (r ∷ ps) p w = go (contains (names r) w) (isNamed-snoc ps p w)
   where
     go : (b : Bool) → isNamed (ps ++ (p ∷ [])) w ≡ isNamed ps w || contains (names p) w
@@ -113,16 +139,3 @@ module _ (t : List ℕ) (ps : List Packet) (w : ℕ) where
   pub stays-named : isCell (capacity t) w ≡ true → ltb 0 (wordAt t (w - 1) rootCount) ≡ false → isNamed ps w ≡ staysRoot t ps w
   unfolding staysRoot isRoot
   stays-named h k = rw (h, rw sub-one at k) (ap (isNamed ps) (cell-number (capacity t) w h))
-
-module _ (p : ℕ → Bool) (x y z : ℕ) (ws : List ℕ) (e : x ∷ y ∷ z ∷ [] ≡ ws) where
-  pub every-first : p x ≡ false → false ≡ everyOf ws p
-  unfolding everyOf
-  every-first h = rw (← e, h)
-
-  pub every-second : p x ≡ true → p y ≡ false → false ≡ everyOf ws p
-  unfolding everyOf
-  every-second h k = rw (← e, h, k)
-
-  pub every-third : p x ≡ true → p y ≡ true → p z ≡ everyOf ws p
-  unfolding everyOf
-  every-third h k = rw (← e, h, k) (sym (and-true (p z)))

@@ -9,10 +9,11 @@ ghost use Prim.Native.Nat.{suc, _≤_};
 ghost use lib.Dec.{ltb};
 ghost use lib.ListN.{length};
 ghost use Rattle.machine.specs.Table.{rootCount, tableLength, wordAt};
-ghost use Rattle.machine.specs.Queue.{packet, waiting};
+ghost use Rattle.machine.specs.Queue.{waiting};
 ghost use Rattle.machine.specs.Packets.{kindOf, contains, isNamed};
 ghost use Rattle.machine.specs.Facts.{QueueShape, Shape};
-ghost use Rattle.marks.specs.Names.{threeOf, staysRoot, stayRoots};
+ghost use Rattle.machine.specs.ShortWay.{watchedOf, staysRoot};
+ghost use Rattle.marks.specs.Names.{threeOf};
 
 // The words that a packet names, nil in the place of those that it does not.
 pub(crate) struct Names {
@@ -35,21 +36,32 @@ pub(crate) fn names_of(kind: u16, a: u16, b: u16, c: u16) -> Names
     }
 }
 
-// Whether one of the names is w, or one was before.
+// Whether w is one of three words.
+fn among(x: u16, y: u16, z: u16, w: u16) -> bool
+    ensures { λ r. ⌜ r ≡ contains (x ∷ y ∷ z ∷ []) w ⌝ }
+{
+    if x == w {
+        return true;
+    }
+    if y == w {
+        return true;
+    }
+    z == w
+}
+
+// Whether a packet names the cell w, or one was found before. Most packets do not have it among their words at all.
 fn or_named(found: bool, kind: u16, a: u16, b: u16, c: u16, w: u16) -> bool
+    requires { ⌜ 1 ≤ w ⌝ }
     ensures { λ r. ⌜ r ≡ found || contains (threeOf (kindOf kind) a b c) w ⌝ }
 {
     if found {
         return true;
     }
-    let n = names_of(kind, a, b, c);
-    if n.x == w {
-        return true;
+    if among(a, b, c, w) {
+        let n = names_of(kind, a, b, c);
+        return among(n.x, n.y, n.z, w);
     }
-    if n.y == w {
-        return true;
-    }
-    n.z == w
+    false
 }
 
 // Whether a waiting packet names the cell w.
@@ -78,8 +90,20 @@ pub(crate) fn rooted(table: &[u16], index: usize) -> bool
     0 < count.0
 }
 
+// The word of a taken packet that tells whether anything can be freed.
+pub fn watched_of(kind: u16, a: u16, b: u16, c: u16) -> u16
+    ensures { λ r. ⌜ r ≡ watchedOf (kindOf kind) a b c ⌝ }
+{
+    match kind {
+        Packet::READ | Packet::DOWN => a,
+        Packet::CONS => c,
+        Packet::REPLACE_LEFT | Packet::REPLACE_RIGHT => b,
+        _ => 0,
+    }
+}
+
 // Whether the word w is no cell, or a root.
-fn stays_root(table: &[u16], queue: Queue, w: u16) -> bool
+pub fn stays_root(table: &[u16], queue: Queue, w: u16) -> bool
     requires { ⌜ Shape (now table) queue ⌝ }
     ensures { λ r. ⌜ r ≡ staysRoot (now (table .entry)) (waiting queue) w ⌝ }
 {
@@ -90,19 +114,4 @@ fn stays_root(table: &[u16], queue: Queue, w: u16) -> bool
         return named(queue, w);
     }
     true
-}
-
-// Whether each cell that a packet names is a root, with the queue's packets waiting.
-pub fn stay_roots(table: &[u16], queue: Queue, kind: u16, a: u16, b: u16, c: u16) -> bool
-    requires { ⌜ Shape (now table) queue ⌝ }
-    ensures { λ r. ⌜ r ≡ stayRoots (now (table .entry)) (waiting queue) (packet kind a b c) ⌝ }
-{
-    let n = names_of(kind, a, b, c);
-    if stays_root(table, queue, n.x) {
-        if stays_root(table, queue, n.y) {
-            return stays_root(table, queue, n.z);
-        }
-        return false;
-    }
-    false
 }

@@ -23,8 +23,8 @@ use Rattle.machine.proofs.Chain.{linked-indices}
 use Rattle.machine.proofs.Reached.{reached-is}
 use Rattle.machine.proofs.Select.{select-indices, select-once, dead-is}
 use Rattle.machine.proofs.Sweep.{sweeps}
-use Rattle.soundness.proofs.Views.{nil-no-cell, View, shown, entries, seen, seen-same, seen-none, Same, All, all-map, Detached, earlier, earlier-same, earlier-entries, stages-same}
-use Rattle.soundness.proofs.LegalPackets.{Fit, fit-nil, LegalPacket, WrittenIn, legal-written, legal-detached, written-map}
+use Rattle.soundness.proofs.Views.{nil-no-cell, View, shown, entries, seen, seen-same, seen-none, Same, All, all-map, Detached, earlier, earlier-same, earlier-entry, stages-same}
+use Rattle.soundness.proofs.LegalPackets.{Fit, fit-nil, LegalPacket, WrittenIn, legal-written, named-fit, named-detached, written-map}
 use Rattle.soundness.proofs.Stages.{shown-used, shown-free}
 use Rattle.soundness.proofs.Facts.{Facts, Live, last-within, free-zero, all-below}
 use Rattle.soundness.proofs.FreeChain.{chain-free}
@@ -264,8 +264,8 @@ module _ (t : List ℕ) (ps : List Packet) (f : Facts t ps) where
       gone h =
           wiped i cellCount l h (omega arith) (omega arith)
           ∙ sym (seen-none c (earlier (shown u) ps) (suc i) (λ j k b m e. not-both
-          (earlier-entries (Fit u) c (shown u) ps (fit-nil u)
-          (all-map (LegalPacket u) (Detached (Fit u)) ps (legal-detached u) legal-after) shown-fit j k b m .used i (rw swept-capacity l) e)
+          (earlier-entry (Fit u) (shown u) ps j k (fit-nil u) (named-detached (Fit u) ps (named-fit u ps legal-after)) (shown-fit j k b m)
+          .used i (rw swept-capacity l) e)
           (swept-use i l ∙ h)))
 
   pub swept-facts : Facts u ps

@@ -184,11 +184,16 @@ written-map P Q p f = go (kindOf (p .kind)) (p .c)
 pub legal-below : (t : List ℕ) (p : Packet) → LegalPacket t p → WrittenBelow (capacity t) p
 legal-below t p h = written-map (WrittenIn t) (λ i k. (i < capacity t) × (k ≤ right)) p (λ i k w. (w .below, w .field)) (legal-written t p h)
 
-pub legal-detached : (t : List ℕ) (p : Packet) → LegalPacket t p → Detached (Fit t) p
-unfolding names namesOf
-legal-detached t p h = go (kindOf (p .kind)) (p .a) (p .b) (p .c) (h .names)
+-- what is said of all that waiting packets name is said of the words that replaces detached
+pub named-detached : (P : ℕ → Type 0) (ps : List Packet) → ((w : ℕ) → isNamed ps w ≡ true → P w) → All (Detached P) ps
+unfolding isNamed names namesOf
+named-detached P [] f = tt
+named-detached P (p ∷ ps) f = (
+  go (kindOf (p .kind)) (p .a) (p .b) (p .c) (λ w n. f w (or-left (isNamed ps w) n)),
+  named-detached P ps (λ w n. f w (or-right (contains (names p) w) n)),
+)
   where
-    go : (n : Kind) (a b c : ℕ) → ((w : ℕ) → contains (namesOf n a b c) w ≡ true → Fit t w) → DetachedOf (Fit t) n b
+    go : (n : Kind) (a b c : ℕ) → ((w : ℕ) → contains (namesOf n a b c) w ≡ true → P w) → DetachedOf P n b
     go reads a b c g = tt
     go makes a b c g = tt
     go (replaces k) a b c g = g b (second-of a b (c ∷ []))

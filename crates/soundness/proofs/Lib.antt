@@ -25,6 +25,7 @@ pub mod OldestPacket
 pub mod Masks
 pub mod FreedCells
 pub mod StepSound
+pub mod ShortWay
 -- every call; nothing trimmed; the code's tests
 pub mod CallSound
 pub mod Untrimmed

@@ -54,7 +54,7 @@ module _ (t : List ℕ) (p : Packet) (ps : List Packet) (f : Facts t (p ∷ ps))
   pub applied-fields : (i k : ℕ) → k ≤ right → wordAt applied i k ≡ wordAt t i k
   applied-fields i k l = stands i k (omega arith) (omega arith) (omega arith)
 
-  enough : (i : ℕ) → i < capacity t → uses p (suc i) ≤ wordAt t i rootCount
+  pub enough : (i : ℕ) → i < capacity t → uses p (suc i) ≤ wordAt t i rootCount
   enough i l = leb-true (uses p (suc i)) (wordAt t i rootCount) (replays-uses (suc i) (wordAt t i rootCount) p ps (f .replay i l))
 
   -- root counts go on as in the replay

@@ -273,12 +273,11 @@ seen-waiting c v [] x l h = refl
 seen-waiting c v (p ∷ ps) x l h =
     omega (arith, seen-waiting c v ps x (l .1) (h .0), seen-undo c (earlier v ps) p x (l .0) (h .1))
 
--- what holds of nil, of the words detached and of every entry holds of the entries of every stage
-pub earlier-entries : (P : ℕ → Type 0) (c : ℕ) (v : View) (ps : List Packet) → P 0 → All (Detached P) ps
-    → ((i k : ℕ) → i < c → k ≤ right → P (v i k)) → (i k : ℕ) → i < c → k ≤ right → P (earlier v ps i k)
+-- what holds of nil, of the words detached and of an entry holds of that entry at every stage
+pub earlier-entry : (P : ℕ → Type 0) (v : View) (ps : List Packet) (i k : ℕ) → P 0 → All (Detached P) ps → P (v i k) → P (earlier v ps i k)
 unfolding earlier
-earlier-entries P c v [] z d f i k l m = f i k l m
-earlier-entries P c v (p ∷ ps) z d f i k l m = go (kindOf (p .kind)) (p .a) (p .b) (p .c) (d .0) (earlier-entries P c v ps z (d .1) f i k l m)
+earlier-entry P v [] i k z d h = h
+earlier-entry P v (p ∷ ps) i k z d h = go (kindOf (p .kind)) (p .a) (p .b) (p .c) (d .0) (earlier-entry P v ps i k z (d .1) h)
   where
     u : View
     u = earlier v ps

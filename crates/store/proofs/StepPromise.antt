@@ -27,6 +27,7 @@ use Rattle.machine.proofs.Questions.{shape-is}
 use Rattle.machine.proofs.Kept.{machine-accepted, machine-refused}
 use Rattle.soundness.specs.Untrimmed.{Passes, AllPass, Untrimmed}
 use Rattle.soundness.proofs.Untrimmed.{untrimmed}
+use Rattle.soundness.proofs.ShortWay.{nothing-freed}
 use Rattle.collector.specs.declared.Stepped.{Stepped}
 use Rattle.collector.specs.Changes.{ChangesFit}
 use Rattle.collector.specs.Steps.{oldest, Premises, Steps}
@@ -55,7 +56,10 @@ premises : (t : List ℕ) (q : Queue) → Sound t q → 0 < q .count → Premise
 premises t q s l =
     let shape = shape-is t q (s .shape) in
     let first = waiting-taken q (pred (q .count)) (shape .queue .place) (shape .queue .count) (omega arith) in
-    record { fit = passes-fit (oldest q) t (changes (oldest q)) (shape .table .room) (untrimmed t q (oldest q) (waiting (taken q)) s first .passing); live = s .live }
+    record {
+      fit = passes-fit (oldest q) t (changes (oldest q)) (shape .table .room) (untrimmed t q (oldest q) (waiting (taken q)) s first .passing);
+      still = nothing-freed t q (oldest q) (waiting (taken q)) s first;
+    }
 
 idle-is : (t : List ℕ) (q : Queue) (s : List ℕ) → q .count ≡ 0 → stepped (store t q s) ≡ outcome idle (store t q s)
 unfolding stepped stepFrom waiting packetsFrom
