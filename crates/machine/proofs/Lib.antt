@@ -20,3 +20,5 @@ pub mod Kept
 pub mod Computes
 pub mod Cases
 pub mod ShutOut
+pub mod OnlyAnswers
+pub mod WrongAnswers

@@ -16,3 +16,4 @@ pub mod Answers
 pub mod Promise
 pub mod Counters
 pub mod Cases
+pub mod WrongAnswers
