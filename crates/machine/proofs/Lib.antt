@@ -21,4 +21,6 @@ pub mod Computes
 pub mod Cases
 pub mod ShutOut
 pub mod OnlyAnswers
+pub mod Crowded
+pub mod ManyPointers
 pub mod WrongAnswers

@@ -7,12 +7,12 @@ use Prim.Native.Nat.{ℕ, zero, suc, _<_}
 use native.Mathlib.Omega.{arith}
 use lib.Dec.{eqb, ltb}
 use borrow.Author.Tests.{eqb-true, ltb-true}
-use Rattle.machine.specs.Calls.{Call, fresh, row, step, audit, Reply, refused, broken, Store, store}
+use Rattle.machine.specs.Calls.{Call, fresh, row, step, audit, refused, broken, Store}
 use Rattle.machine.specs.Step.{Outcome, outcome}
 use Rattle.machine.specs.Questions.{Question, ask, inRange, firstNo, early, questions}
 use Rattle.machine.specs.Audit.{rules, auditReply, audited, Sound}
 use Rattle.machine.specs.Machine.{accepted, machine}
-use Rattle.machine.specs.Promise.{Decided, ByMachine, Promise}
+use Rattle.machine.specs.Promise.{Decided, ByMachine}
 use Rattle.machine.specs.WrongAnswers.{noes, Entry, refuses, finds, gives, OnlyAnswer, auditedStore, Only, AllOnly}
 use Rattle.machine.proofs.Range.{tested, or-true, or-right, and-first, and-second}
 use Rattle.machine.proofs.Questions.{firstNo-yes, firstNo-no, firstNo-all}

@@ -3,6 +3,7 @@ use mathlib.Core.Path.{refl}
 use Rattle.machine.specs.WrongAnswers as table
 use Rattle.machine.specs.WrongAnswers.{noes, WrongAnswers}
 use Rattle.machine.proofs.Computes.{computes}
+use Rattle.machine.proofs.ManyPointers.{pointers-only}
 use Rattle.machine.proofs.OnlyAnswers.{isSound, isDecided, isSettled, computed, expected, only-first, all-only}
 
 pub wrong-answers : WrongAnswers
@@ -11,6 +12,7 @@ wrong-answers = record {
   first-no = only-first;
   range = all-only table.range-entries refl;
   skipped = all-only table.skipped-entries refl;
+  pointers = pointers-only;
   order = all-only table.order-entries refl;
   rows = all-only table.row-entries refl;
   freshes = all-only table.fresh-entries refl;

@@ -1,12 +1,12 @@
 -- The wrong answers that the promise shuts out, as a table: at each entry's store and call one answer keeps the promise, so that no other does.
 use mathlib.Core.Path.{_≡_}
-use mathlib.Core.Bool.{Bool, cond}
+use mathlib.Core.Bool.{cond}
 use mathlib.Core.List.{List, [], _∷_, _++_}
-use Prim.Native.Nat.{ℕ, suc, _*_}
+use Prim.Native.Nat.{ℕ, zero, suc, _*_}
 use lib.ListN.{take, set, replicate}
 use Rattle.machine.specs.declared.Queue.{Queue}
 use Rattle.machine.specs.Table.{stride, tableLength, capacity, scratchWords}
-use Rattle.machine.specs.Queue.{Packet, packet, zeroPacket, slots, emptyQueue, putSlot, appended}
+use Rattle.machine.specs.Queue.{Packet, packet, slots, emptyQueue, putSlot, appended}
 use Rattle.machine.specs.Calls.{Call, fresh, row, step, audit, car, cdr, cons, setLeft, setRight, up, down}
 use Rattle.machine.specs.Calls.{Reply, value, refused, idle, applied, sound, broken, Store, store}
 use Rattle.machine.specs.Step.{cleared}
@@ -158,6 +158,22 @@ order-entries =
     ∷ refuses busy (row (up 1 4095)) 7 (9 ∷ [])
     ∷ []
 
+-- question 10 skipped, or in the place of an earlier one, at a store of the fewest cells that can have 4,095 pointers to one: they all point to
+-- the first, but for its own right field, which is nil
+unfoldable pub repeated : ℕ → List ℕ → List ℕ
+repeated zero ws = []
+repeated (suc n) ws = ws ++ repeated n ws
+
+-- n cells and the first, held so often, with this word in its right field
+unfoldable pub crowded : ℕ → ℕ → ℕ → List ℕ
+crowded n word holds = suc n ∷ 0 ∷ 0 ∷ 1 ∷ word ∷ holds ∷ suc (2 * n) ∷ 1 ∷ repeated n (1 ∷ 1 ∷ 1 ∷ 0 ∷ 1 ∷ [])
+
+abbrev pub pointer-entries : List Entry
+pointer-entries =
+    refuses (lent (crowded 2047 0 2) emptyQueue) (row (setRight 1 1)) 10 []
+    ∷ refuses (lent (crowded 2047 0 1) emptyQueue) (row (setRight 1 1)) 6 (10 ∷ [])
+    ∷ []
+
 -- row calls that read, write, reply or queue another word (of the packet a, b or c), or write past the cells
 abbrev pub row-entries : List Entry
 row-entries =
@@ -265,11 +281,12 @@ abbrev pub S5-entries : List Entry
 S5-entries = finds (lent (2 ∷ 2 ∷ 2 ∷ 1 ∷ 0 ∷ 0 ∷ 1 ∷ 1 ∷ 0 ∷ 0 ∷ 0 ∷ 0 ∷ 0 ∷ []) emptyQueue) 5 [] ∷ []
 
 pub record WrongAnswers : Type 0 where
-  -- for any store and call where the papers decide, and so of question 10 too, whose stores have 2,048 cells or more
+  -- for any store and call where the papers decide
   pub first-no : (s : Store) (call : Call) (n : ℕ) (ns : List ℕ) → Decided s call → noes (questions s call) ≡ suc n ∷ ns
       → OnlyAnswer s call (refused (suc n)) s
   pub range : AllOnly range-entries
   pub skipped : AllOnly skipped-entries
+  pub pointers : AllOnly pointer-entries
   pub order : AllOnly order-entries
   pub rows : AllOnly row-entries
   pub freshes : AllOnly fresh-entries
