@@ -19,7 +19,6 @@ pub mod Questions
 pub mod Kept
 pub mod Computes
 pub mod Cases
-pub mod ShutOut
 pub mod OnlyAnswers
 pub mod Crowded
 pub mod ManyPointers

@@ -1,7 +1,7 @@
 -- The wrong answers that the promise shuts out, as a table: at each entry's store and call one answer keeps the promise, so that no other does.
 use mathlib.Core.Path.{_≡_}
 use mathlib.Core.Bool.{cond}
-use mathlib.Core.List.{List, [], _∷_, _++_}
+use mathlib.Core.List.{List, [], _∷_, _++_, map}
 use Prim.Native.Nat.{ℕ, zero, suc, _*_}
 use lib.ListN.{take, set, replicate}
 use Rattle.machine.specs.declared.Queue.{Queue}
@@ -91,51 +91,57 @@ busy = lent held full
 abbrev outside : Store
 outside = lent (set held 1 3) emptyQueue
 
--- question 1 answered "yes" although C, a free end, the place, the count or the table's length is out of range
+-- of each of these calls these questions say "no"
+abbrev refusals : ℕ → List ℕ → Store → List Call → List Entry
+refusals n ns s calls = map (λ call. refuses s call n ns) calls
+
+-- by each of these stores these rules are broken
+abbrev findings : ℕ → List ℕ → List Store → List Entry
+findings n ns ss = map (λ s. finds s n ns) ss
+
+-- tables with no packet waiting; packets that wait alone, or do not wait, beside a sound table
+abbrev tables : List (List ℕ) → List Store
+tables ts = map (λ t. lent t emptyQueue) ts
+
+abbrev waiters : List Packet → List Store
+waiters ps = map (λ p. lent held (only p)) ps
+
+abbrev strays : List Packet → List Store
+strays ps = map (λ p. lent held (stray p)) ps
+
+-- question 1 answered "yes"
 abbrev pub range-entries : List Entry
 range-entries =
+    -- although C is 0 or 4,097,
     refuses (store (0 ∷ 0 ∷ 0 ∷ []) emptyQueue []) audit 1 []
     ∷ refuses (store (4097 ∷ 0 ∷ 0 ∷ replicate (stride * 4097) 0) emptyQueue (replicate 4097 0)) audit 1 []
+    -- a free end is 3 of 2 cells,
     ∷ refuses outside audit 1 []
     ∷ refuses (lent (set held 2 3) emptyQueue) audit 1 []
+    -- the place is 64, the count 65,
     ∷ refuses (lent held (at 64 0 emptyQueue)) audit 1 []
     ∷ refuses (lent held (at 0 65 emptyQueue)) audit 1 []
+    -- the table is one word too short, for its cells or for those that fresh is to make;
     ∷ refuses (lent (take 12 held) emptyQueue) audit 1 []
-    ∷ refuses outside step 1 []
-    ∷ refuses outside (row (car 1)) 1 []
-    ∷ refuses outside (row (cons 0 0)) 1 []
-    ∷ refuses quiet (fresh 3) 1 []
-    ∷ []
+    ∷ refuses (lent (replicate 17 0) emptyQueue) (fresh 3) 1 []
+    -- by other calls
+    ∷ refusals 1 [] outside (step ∷ row (car 1) ∷ row (cdr 1) ∷ row (cons 0 1) ∷ row (up 1 1) ∷ row (down 1 1) ∷ [])
 
 -- a question skipped: it alone says "no"
 abbrev pub skipped-entries : List Entry
 skipped-entries =
-    refuses (store held emptyQueue (7 ∷ [])) step 2 []
-    ∷ refuses (store held emptyQueue (7 ∷ [])) audit 2 []
-    ∷ refuses quiet (fresh 0) 3 []
-    ∷ refuses (lent (replicate (tableLength 4097) 0) emptyQueue) (fresh 4097) 3 []
-    ∷ refuses quiet (row (up 1 0)) 3 []
-    ∷ refuses quiet (row (down 1 0)) 3 []
-    ∷ refuses quiet (row (cons 3 0)) 4 []
-    ∷ refuses quiet (row (cons 0 32767)) 4 []
-    ∷ refuses quiet (row (setLeft 1 3)) 4 []
-    ∷ refuses quiet (row (car 0)) 5 []
-    ∷ refuses quiet (row (cdr 32775)) 5 []
-    ∷ refuses quiet (row (setLeft 0 1)) 5 []
-    ∷ refuses quiet (row (setRight 32775 1)) 5 []
-    ∷ refuses quiet (row (up 0 1)) 5 []
-    ∷ refuses quiet (row (down 32775 1)) 5 []
-    ∷ refuses quiet (row (car 2)) 6 []
-    ∷ refuses quiet (row (cons 1 1)) 6 []
-    ∷ refuses quiet (row (setRight 1 1)) 6 []
-    ∷ refuses quiet (row (down 1 2)) 6 []
-    ∷ refuses busy (row (up 1 1)) 7 []
-    ∷ refuses (lent alone emptyQueue) (row (cons 0 0)) 8 []
-    ∷ refuses quiet (row (up 1 4095)) 9 []
-    ∷ refuses (lent ring emptyQueue) (row (up 1 1)) 9 []
-    ∷ []
+    refusals 2 [] (store held emptyQueue (7 ∷ [])) (step ∷ audit ∷ [])
+    ++ refusals 3 [] quiet (fresh 0 ∷ row (up 1 0) ∷ row (down 1 0) ∷ [])
+    ++ refusals 3 [] (lent (replicate (tableLength 4097) 0) emptyQueue) (fresh 4097 ∷ [])
+    ++ refusals 4 [] quiet (row (cons 3 0) ∷ row (cons 0 32767) ∷ row (setLeft 1 3) ∷ row (setRight 1 3) ∷ [])
+    ++ refusals 5 [] quiet (row (car 0) ∷ row (cdr 32775) ∷ row (setLeft 0 1) ∷ row (setRight 32775 1) ∷ row (up 0 1) ∷ row (down 32775 1) ∷ [])
+    ++ refusals 6 [] quiet (row (car 2) ∷ row (cdr 2) ∷ row (cons 1 1) ∷ row (setLeft 1 1) ∷ row (setRight 1 1) ∷ row (up 2 1) ∷ row (down 1 2) ∷ [])
+    ++ refusals 7 [] busy (row (car 1) ∷ row (cons 0 1) ∷ row (setLeft 1 1) ∷ row (up 1 1) ∷ row (down 1 1) ∷ [])
+    ++ refusals 8 [] (lent alone emptyQueue) (row (cons 0 0) ∷ row (cons 1 0) ∷ [])
+    ++ refusals 9 [] quiet (row (up 1 4095) ∷ [])
+    ++ refusals 9 [] (lent ring emptyQueue) (row (up 1 1) ∷ [])
 
--- a later number in the place of the first
+-- a later number in the place of the first "no"
 abbrev pub order-entries : List Entry
 order-entries =
     refuses (store (set held 1 3) emptyQueue []) audit 1 (2 ∷ [])
@@ -194,17 +200,20 @@ fresh-entries =
     (lent (2 ∷ 1 ∷ 2 ∷ 2 ∷ 0 ∷ 0 ∷ 0 ∷ 0 ∷ 0 ∷ 0 ∷ 0 ∷ 0 ∷ 0 ∷ 77 ∷ []) emptyQueue)
     ∷ []
 
--- steps: idle with packets waiting, all packets taken at once, nothing freed or another number told, a word past the cells or past the
--- scratch's front written, the front not cleared, the taken slot kept; an idle step that clears the scratch
+-- steps, each with a word past the cells and one past the scratch's front that must stand, a front to be cleared and a taken slot to be zero
 abbrev pub step-entries : List Entry
 step-entries =
-    gives (lent alone (only (packet 4 1 2 0))) step (applied 4 0)
-    (store (set alone 5 3) (at 1 0 emptyQueue) (0 ∷ 7 ∷ 9 ∷ []))
+    -- idle with a packet waiting, or the packet not applied
+    gives (lent alone (only (packet 4 1 2 0))) step (applied 4 0) (store (set alone 5 3) (at 1 0 emptyQueue) (0 ∷ 7 ∷ 9 ∷ []))
+    -- nothing freed, another number told, or the roots looked for before the packet is applied
     ∷ gives (lent alone (only (packet 5 1 1 0))) step (applied 5 1)
     (store (1 ∷ 1 ∷ 1 ∷ 0 ∷ 0 ∷ 0 ∷ 0 ∷ 0 ∷ 77 ∷ []) (at 1 0 emptyQueue) (0 ∷ 7 ∷ 9 ∷ []))
+    -- all packets taken at once
     ∷ gives (lent alone (appended (only (packet 4 1 2 0)) (packet 5 1 3 0))) step (applied 4 0)
     (store (set alone 5 3) (putSlot emptyQueue 1 (packet 5 1 3 0) 1 1) (0 ∷ 7 ∷ 9 ∷ []))
+    -- the scratch cleared, or anything else changed, although no packet waits: on a sound store and on another
     ∷ gives (lent alone emptyQueue) step idle (lent alone emptyQueue)
+    ∷ gives (lent (set alone 7 2) emptyQueue) step idle (lent (set alone 7 2) emptyQueue)
     ∷ []
 
 -- place 63 not followed by 0: a packet taken there, and one appended behind it
@@ -222,63 +231,40 @@ audit-entries =
     ∷ gives (lent (set alone 7 2) emptyQueue) audit (broken 1) (store (set alone 7 2) emptyQueue (0 ∷ 7 ∷ 9 ∷ []))
     ∷ []
 
--- an audit blind to a state, a count, a field that is no cell, or one that is free
+-- an audit blind to a state, a root count, a field that is no cell; to a cell count, and a field that is a free cell
 abbrev pub S1-entries : List Entry
 S1-entries =
-    finds (lent (set held 7 2) emptyQueue) 1 []
-    ∷ finds (lent (set held 5 4096) emptyQueue) 1 []
-    ∷ finds (lent (set held 6 4096) emptyQueue) 1 (4 ∷ [])
-    ∷ finds (lent (set held 3 3) emptyQueue) 1 []
-    ∷ finds (lent (set held 4 2) emptyQueue) 1 (4 ∷ [])
-    ∷ []
+    findings 1 [] (tables (set held 7 2 ∷ set held 5 4096 ∷ set held 3 3 ∷ []))
+    ++ findings 1 (4 ∷ []) (tables (set held 6 4096 ∷ set held 4 2 ∷ []))
 
--- to a chain that misses a free cell, ends elsewhere, is a circle, goes on to a cell in use or past the cells; to a free cell's layout
 abbrev pub S2-entries : List Entry
 S2-entries =
-    finds (lent (set held 1 0) emptyQueue) 2 []
-    ∷ finds (lent (set held 2 1) emptyQueue) 2 []
-    ∷ finds (lent (set held 8 2) emptyQueue) 2 []
-    ∷ finds (lent (set held 8 1) emptyQueue) 2 []
-    ∷ finds (lent (set held 8 3) emptyQueue) 2 []
-    ∷ finds (lent (set held 9 5) emptyQueue) 2 []
-    ∷ finds (lent (set held 10 5) emptyQueue) 2 []
-    ∷ finds (lent (set held 11 5) emptyQueue) 2 (4 ∷ [])
-    ∷ []
+    -- to a chain that misses a free cell, ends elsewhere, is a circle, goes on to a cell in use or past the cells,
+    findings 2 [] (tables (set held 1 0 ∷ set held 2 1 ∷ set held 8 2 ∷ set held 8 1 ∷ set held 8 3 ∷ []))
+    -- to a free cell's right word, root count and cell count
+    ++ findings 2 [] (tables (set held 9 5 ∷ set held 10 5 ∷ []))
+    ++ findings 2 (4 ∷ []) (tables (set held 11 5 ∷ []))
 
--- to a slot that does not wait; to a kind, a word or a number that is not legal; to a cell that is free; to the replay
 abbrev pub S3-entries : List Entry
 S3-entries =
-    finds (lent held (stray (packet 4 0 0 0))) 3 []
-    ∷ finds (lent held (stray (packet 0 1 0 0))) 3 []
-    ∷ finds (lent held (stray (packet 0 0 1 0))) 3 []
-    ∷ finds (lent held (stray (packet 0 0 0 1))) 3 []
-    ∷ finds (lent held (only (packet 0 0 0 0))) 3 []
-    ∷ finds (lent held (only (packet 7 0 0 0))) 3 []
-    ∷ finds (lent held (only (packet 1 0 0 0))) 3 []
-    ∷ finds (lent held (only (packet 1 1 3 0))) 3 []
-    ∷ finds (lent held (only (packet 1 1 0 1))) 3 []
-    ∷ finds (lent held (only (packet 4 1 1 1))) 3 []
-    ∷ finds (lent held (only (packet 5 1 1 1))) 3 []
-    ∷ finds (lent held (only (packet 4 1 0 0))) 3 []
-    ∷ finds (lent held (only (packet 5 1 0 0))) 3 []
-    ∷ finds (lent held (only (packet 1 1 2 0))) 3 []
-    ∷ finds (lent held (only (packet 5 1 2 0))) 3 []
-    ∷ finds (lent held (only (packet 4 1 4095 0))) 3 []
-    ∷ []
+    -- to each word of a slot that does not wait,
+    findings 3 [] (strays (packet 4 0 0 0 ∷ packet 0 1 0 0 ∷ packet 0 0 1 0 ∷ packet 0 0 0 1 ∷ []))
+    -- to kinds 0 and 7, an a that is no cell, a b that is not legal,
+    ++ findings 3 [] (waiters (packet 0 0 0 0 ∷ packet 7 0 0 0 ∷ packet 1 0 0 0 ∷ packet 4 0 1 0 ∷ packet 5 0 1 0 ∷ packet 1 1 3 0 ∷ []))
+    -- to a c that is not used and not 0, a number that is 0,
+    ++ findings 3 [] (waiters (packet 1 1 0 1 ∷ packet 4 1 1 1 ∷ packet 5 1 1 1 ∷ packet 4 1 0 0 ∷ packet 5 1 0 0 ∷ []))
+    -- to a word that is a free cell, and to questions 6 and 9 of the replay
+    ++ findings 3 [] (waiters (packet 1 1 2 0 ∷ packet 5 1 2 0 ∷ packet 4 1 4095 0 ∷ []))
 
 -- to a replaced field that does not hold a, a new cell that does not hold a and b, a cell count that is not the pointers
 abbrev pub S4-entries : List Entry
 S4-entries =
-    finds (lent held (only (packet 3 32768 0 1))) 4 []
-    ∷ finds (lent held (only (packet 6 32768 0 1))) 4 []
-    ∷ finds (lent held (only (packet 2 32768 32775 1))) 4 []
-    ∷ finds (lent held (only (packet 2 0 32768 1))) 4 []
-    ∷ finds (lent (set held 6 1) emptyQueue) 4 []
-    ∷ []
+    findings 4 [] (waiters (packet 3 32768 0 1 ∷ packet 6 32768 0 1 ∷ packet 2 32768 32775 1 ∷ packet 2 0 32768 1 ∷ []))
+    ++ findings 4 [] (tables (set held 6 1 ∷ []))
 
 -- to a cell that only itself points to
 abbrev pub S5-entries : List Entry
-S5-entries = finds (lent (2 ∷ 2 ∷ 2 ∷ 1 ∷ 0 ∷ 0 ∷ 1 ∷ 1 ∷ 0 ∷ 0 ∷ 0 ∷ 0 ∷ 0 ∷ []) emptyQueue) 5 [] ∷ []
+S5-entries = findings 5 [] (tables ((1 ∷ 0 ∷ 0 ∷ 1 ∷ 0 ∷ 0 ∷ 1 ∷ 1 ∷ []) ∷ []))
 
 pub record WrongAnswers : Type 0 where
   -- for any store and call where the papers decide
