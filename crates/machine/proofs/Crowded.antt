@@ -150,7 +150,8 @@ module _ (n word holds : ℕ) (small : word ≤ 1) (some : 1 ≤ holds) (few : h
   unfolding pointers
   pointers-first =
       let one : matching 1 1 1 ≡ 1 = matching-same 1 1 1 refl in
-      rw (f .cells) (total-twos n (pointersFrom t 1) (λ i l. from-other 1 i l ∙ ap₂ _+_ one one) ∙ ap (λ m. m + 2 * n) (from-first 1 ∙ ap (λ m. m + matching word 1 1) one))
+      let twos = total-twos n (pointersFrom t 1) (λ i l. from-other 1 i l ∙ ap₂ _+_ one one) in
+      rw (f .cells) (twos ∙ ap (λ m. m + 2 * n) (from-first 1 ∙ ap (λ m. m + matching word 1 1) one))
 
   pointers-other : (i : ℕ) → pointers t (suc (suc i)) ≡ 0
   unfolding pointers
@@ -158,7 +159,8 @@ module _ (n word holds : ℕ) (small : word ≤ 1) (some : 1 ≤ holds) (few : h
       let x = suc (suc i) in
       let no : matching 1 x 1 ≡ 0 = matching-other 1 x 1 (λ e. omega arith) in
       let none : matching word x 1 ≡ 0 = matching-other word x 1 (λ e. omega arith) in
-      rw (f .cells) (total-same (suc n) (pointersFrom t x) (λ j. 0) (λ j l. each (λ k. pointersFrom t x k ≡ 0) n (from-first x ∙ ap₂ _+_ no none) (λ k m. from-other x k m ∙ ap₂ _+_ no no) j l) ∙ total-zero (suc n))
+      let nowhere = each (λ j. pointersFrom t x j ≡ 0) n (from-first x ∙ ap₂ _+_ no none) (λ j l. from-other x j l ∙ ap₂ _+_ no no) in
+      rw (f .cells) (total-same (suc n) (pointersFrom t x) (λ j. 0) nowhere ∙ total-zero (suc n))
 
   pub all-cells : (p : ℕ → Bool) → ((i : ℕ) → i < suc n → p i ≡ true) → every (capacity t) p ≡ true
   all-cells p h = every-all (capacity t) p (λ i l. h i (rw (f .cells) at l))

@@ -111,7 +111,8 @@ module _ (n holds : ℕ) (some : 1 ≤ holds) (few : holds ≤ ceiling) (fits : 
     noes-are : (b : Bool) → heldEnough u [] (replace 0) ≡ b → noes (questions lent (row (setRight 1 1))) ≡ cond b (10 ∷ []) (6 ∷ 10 ∷ [])
     unfolding noes questions early earlyRow late lateRow askFree slotEmpty
     noes-are b h =
-        rw (shape n 0 holds (omega arith) some few refl fits, legal, is-cell, packet-is, waiting-none, waiting-one (replace 0), written-is n holds, h, held-few 0, over tight)
+        let yes = shape n 0 holds (omega arith) some few refl fits in
+        rw (yes, legal, is-cell, packet-is, waiting-none, waiting-one (replace 0), written-is n holds, h, held-few 0, over tight)
 
     sound : Sound u emptyQueue
     sound = sound-table n 0 holds (omega arith) some few refl fits

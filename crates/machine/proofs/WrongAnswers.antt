@@ -12,6 +12,7 @@ wrong-answers = record {
   first-no = only-first;
   range = all-only table.range-entries refl;
   skipped = all-only table.skipped-entries refl;
+  damaged = all-only table.damaged-entries refl;
   pointers = pointers-only;
   order = all-only table.order-entries refl;
   rows = all-only table.row-entries refl;

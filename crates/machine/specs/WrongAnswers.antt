@@ -141,6 +141,14 @@ skipped-entries =
     ++ refusals 9 [] quiet (row (up 1 4095) ∷ [])
     ++ refusals 9 [] (lent ring emptyQueue) (row (up 1 1) ∷ [])
 
+-- questions 2 to 5 answered otherwise on a store that passes question 1 and not the audit
+abbrev pub damaged-entries : List Entry
+damaged-entries =
+    refusals 2 [] (store (set held 7 2) emptyQueue (7 ∷ [])) (step ∷ audit ∷ [])
+    ++ refusals 3 [] (lent (set held 7 2) emptyQueue) (row (up 1 0) ∷ row (down 1 0) ∷ [])
+    ++ refusals 4 [] (lent (set held 7 2) emptyQueue) (row (cons 3 0) ∷ row (setLeft 1 3) ∷ [])
+    ++ refusals 5 [] (lent (set held 7 2) emptyQueue) (row (car 0) ∷ row (setRight 32775 1) ∷ row (up 0 1) ∷ [])
+
 -- a later number in the place of the first "no"
 abbrev pub order-entries : List Entry
 order-entries =
@@ -272,6 +280,7 @@ pub record WrongAnswers : Type 0 where
       → OnlyAnswer s call (refused (suc n)) s
   pub range : AllOnly range-entries
   pub skipped : AllOnly skipped-entries
+  pub damaged : AllOnly damaged-entries
   pub pointers : AllOnly pointer-entries
   pub order : AllOnly order-entries
   pub rows : AllOnly row-entries
