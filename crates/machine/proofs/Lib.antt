@@ -20,4 +20,7 @@ pub mod Kept
 pub mod AuditedSound
 pub mod Computes
 pub mod Cases
-pub mod ShutOut
+pub mod OnlyAnswers
+pub mod Crowded
+pub mod ManyPointers
+pub mod WrongAnswers

@@ -33,11 +33,11 @@ abbrev pub AllYes : List Question → Type 0
 AllYes [] = Unit {0}
 AllYes (k ∷ ks) = (k .answer ≡ true) × AllYes ks
 
-firstNo-yes : (k : Question) (ks : List Question) → k .answer ≡ true → firstNo (k ∷ ks) ≡ firstNo ks
+pub firstNo-yes : (k : Question) (ks : List Question) → k .answer ≡ true → firstNo (k ∷ ks) ≡ firstNo ks
 unfolding firstNo
 firstNo-yes k ks h = rw h
 
-firstNo-no : (k : Question) (ks : List Question) → k .answer ≡ false → firstNo (k ∷ ks) ≡ k .number
+pub firstNo-no : (k : Question) (ks : List Question) → k .answer ≡ false → firstNo (k ∷ ks) ≡ k .number
 unfolding firstNo
 firstNo-no k ks h = rw h
 

@@ -153,6 +153,9 @@ every-not (suc n) p h = ⊎-elim (λ e. (n, omega arith, rw e at h)) (λ e. wide
     wider : (i : ℕ) × (i < n) × (p i ≡ false) → (i : ℕ) × (i < suc n) × (p i ≡ false)
     wider w = let l = w .1 in (w .0, omega arith, w .2)
 
+pub every-fails : (n : ℕ) (p : ℕ → Bool) (i : ℕ) → i < n → p i ≡ false → every n p ≡ false
+every-fails n p i l h = ⊎-elim (λ e. absurd (not-both (every-at n p e i l) h)) (λ e. e) (tested (every n p))
+
 pub lt-or-ge : (i n : ℕ) → (i < n) ⊎ (n ≤ i)
 lt-or-ge i n = ⊎-elim (λ e. inl (ltb-true i n e)) (λ e. inr (ltb-false i n e)) (tested (ltb i n))
 

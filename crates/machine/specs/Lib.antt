@@ -18,3 +18,4 @@ pub mod AuditedSound
 pub mod Counters
 pub mod Cases
 pub mod ShortWay
+pub mod WrongAnswers
