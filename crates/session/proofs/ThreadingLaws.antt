@@ -1,22 +1,22 @@
 -- Lists of parts one after the other, and what the session program's steps hand on.
-use mathlib.Core.Path.{_≡_, refl, sym, ap, _∙_, subst}
+use mathlib.Core.Path.{_≡_, refl, sym, ap, _∙_}
 use mathlib.Core.Logic.{_⊎_, inl, inr}
 use mathlib.Core.List.{List, [], _∷_, _++_, append-assoc}
-use Prim.Native.Nat.{ℕ, zero, suc, _+_, _-_, _^_, _≤_, _<_}
+use Prim.Native.Nat.{ℕ, _+_, _-_, _^_, _≤_, _<_}
 use native.Mathlib.Omega.{arith}
-use lib.ListN.{length, take, drop, length-append, length-take}
+use lib.ListN.{length, take, drop, length-append}
 use lib.Seq.{take-add, length-take-le}
+use Rattle.line_text.proofs.RequestLaws.{last-part, last-part-length}
+use Rattle.line_text.proofs.WordLaws.{append-none}
 use Rattle.session_lines.specs.declared.Session.{Session}
 use Rattle.session_lines.specs.Progress.{Feeds, Finishes}
 use Rattle.session_lines.specs.Whole.{State, Part, Fed, lastState, inputs, begin}
-use Rattle.line_text.proofs.RequestLaws.{last-part, last-part-length}
-use Rattle.line_text.proofs.WordLaws.{append-none}
 use Rattle.session_lines.proofs.Theorem.{whole}
 use Rattle.session.specs.declared.Read
 use Rattle.session.specs.declared.Read.{Read}
 use Rattle.session.specs.declared.Outcome
 use Rattle.session.specs.declared.Outcome.{Outcome}
-use Rattle.session.specs.Threading.{state, Within, Threads, Taken, Relays, Follows, Reads, remaining, Finished, Concludes, Listed, Ends, Runs}
+use Rattle.session.specs.Threading.{state, Within, Threads, Taken, Follows, Reads, remaining, Concludes, Runs}
 
 fed-both : (s : State) (ps qs : List Part) → Fed s ps → Fed (lastState s ps) qs → Fed s (ps ++ qs)
 fed-both s [] qs f g = g
@@ -100,7 +100,8 @@ going Outcome.Failed reads taken h l = absurd (omega arith)
 
 module _ {s s′ : State} {o : Outcome} {reads : ℕ} (a : Running s o reads) (l : 0 < reads) where
   -- a read of some bytes
-  relayed : (o′ : Outcome) (n : ℕ) (part : List ℕ) → 0 < length part → Threads s (take n part) s′ → Taken o′ n part → Running s′ o′ (remaining reads o′)
+  relayed : (o′ : Outcome) (n : ℕ) (part : List ℕ) → 0 < length part → Threads s (take n part) s′ → Taken o′ n part
+      → Running s′ o′ (remaining reads o′)
   relayed Outcome.More n part h t m =
       let c = going o reads (a .taken) (a .counted) l in
       let e : length (take n part) ≡ length part = length-take-le n part (omega arith) ∙ m in
@@ -128,6 +129,12 @@ module _ {s s′ : State} {o : Outcome} {reads : ℕ} (a : Running s o reads) (l
   pub running-read : {buffer : List ℕ} {o′ : Outcome} → Reads s buffer o′ s′ → Running s′ o′ (remaining reads o′)
   running-read {buffer} {o′} r = followed (r .read) buffer o′ (r .within) (r .follows)
 
+-- `finish` is handed the state that the parts lead to
+promised : {x : List ℕ} {s : State} {written : ℕ} {out : List ℕ} (t : Threads begin x s)
+    → Finishes (s .session) (s .table) (s .scratch) written out
+    → Finishes (lastState begin (t .parts) .session) (lastState begin (t .parts) .table) (lastState begin (t .parts) .scratch) written out
+promised t f = rw (t .last) f
+
 -- the whole run
 pub running-ends : {s : State} (out new : List ℕ) (o result : Outcome) → Running s o 0 → Concludes o s out result new → Runs result new
 running-ends out new Outcome.More result a c =
@@ -138,8 +145,7 @@ running-ends out new Outcome.End Outcome.More a c = absurd (c .over refl)
 running-ends out new Outcome.End Outcome.Failed a c = record { parts = a .threads .parts; fed = a .threads .fed; ends = tt }
 running-ends out new Outcome.End Outcome.End a c =
     let t = a .threads in
-    let f : Finishes (lastState begin (t .parts) .session) (lastState begin (t .parts) .table) (lastState begin (t .parts) .scratch) (c .written) new =
-    rw (t .last) (c .finishes) in
+    let f = promised t (c .finishes) in
     record {
       parts = t .parts;
       fed = t .fed;

@@ -66,7 +66,7 @@ remaining reads Outcome.More = reads - 1
 remaining reads Outcome.End = 0
 remaining reads Outcome.Failed = 0
 
--- the buffer's front is all that was ahead, and was written unless that failed
+-- the buffer's front is all that was ahead, and nothing is to come
 pub record Finished (s : State) (result : Outcome) (out : List ℕ) : Type 0 where
   pub written : ℕ
   pub finishes : Finishes (s .session) (s .table) (s .scratch) written out
@@ -78,14 +78,14 @@ Concludes Outcome.More s out result new = (result ≡ Outcome.More) × (new ≡ 
 Concludes Outcome.End s out result new = Finished s result new
 Concludes Outcome.Failed s out result new = (result ≡ Outcome.Failed) × (new ≡ out)
 
--- `finish` kept its promise at the state that the parts lead to. So, by the theorem on whole sessions, if the input is shorter than 2^64 bytes,
--- the parts' outputs and the buffer's front joined are the listing of the parts' inputs joined.
+-- `finish` kept its promise at the state that the parts lead to; so, by the theorem on whole sessions, the parts' outputs and the buffer's front
+-- joined are the listing of the parts' inputs joined
 pub record Listed (parts : List Part) (out : List ℕ) : Type 0 where
   pub written : ℕ
   pub finishes : Finishes (lastState begin parts .session) (lastState begin parts .table) (lastState begin parts .scratch) written out
   pub listed : length (inputs parts) + 1 < 2 ^ 64 → outputs parts ++ take written out ≡ listing (inputs parts)
 
--- how a run ends; the reads are used up by no input for which the theorem speaks
+-- how a run ends; no input of the theorem's length uses up the counted reads
 abbrev pub Ends : Outcome → List Part → List ℕ → Type 0
 Ends Outcome.More parts out = 2 ^ 64 ≤ length (inputs parts) + 1
 Ends Outcome.End parts out = Listed parts out

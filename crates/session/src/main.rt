@@ -1,5 +1,5 @@
-// A session from standard input to standard output. Proved (specs/Threading): the calls of session_lines are threaded as its theorem on whole
-// sessions wants it. Not proved, since libc's contracts say nothing of bytes: that what is read is the input, and that what is written comes out.
+// A session from standard input to standard output. Proved (specs/Threading): what goes from call to call is as session_lines' theorem on whole
+// sessions wants it. Not proved, since libc's contracts say nothing of bytes: that what is fed is the input, and that the output is written.
 use libc::STDERR_FILENO;
 use libc::STDIN_FILENO;
 use libc::STDOUT_FILENO;
@@ -12,20 +12,20 @@ ghost use Rattle.session_lines.specs.Whole.{begin};
 ghost use Rattle.session.specs.Threading.{state, meaning, Within, Relays, Follows, Reads, remaining, Concludes, Runs};
 
 // What a read gave: so many bytes, the end of the input, or a failure.
-pub enum Read {
+enum Read {
     Bytes(usize),
     End,
     Failed,
 }
 
 // How the session goes on: with more of the input, with its end, or not at all, since a read or a write failed.
-pub enum Outcome {
+enum Outcome {
     More,
     End,
     Failed,
 }
 
-pub struct Relayed {
+struct Relayed {
     session: Session,
     outcome: Outcome,
 }
@@ -75,7 +75,8 @@ fn relay(
     let mut present = session;
     let mut from = 0;
     while from < input.len() {
-        let fed = session_lines::feed(present, table, scratch, &input[from..], out);
+        let before = present;
+        let fed = session_lines::feed(before, table, scratch, &input[from..], out);
         let next = fed.session;
         let end = fed.written;
         present = next;
@@ -176,7 +177,7 @@ fn conclude(
 }
 
 // It begins with the table and the scratch of the theorem on whole sessions.
-// A proved loop has to end, and nothing says that the input does: so the reads are counted down, from a number that no input below 2^64 bytes uses up.
+// A proved loop has to end, and nothing says that the input does: so the reads are counted down, from a number that no input of the theorem uses up.
 fn run(table: &mut [u16], scratch: &mut [u16], input: &mut [u8], out: &mut [u8]) -> Outcome
     requires { ⌜ (now table ≡ begin .table) × (now scratch ≡ begin .scratch) × (room ≤ length (now out)) ⌝ }
     ensures { λ r. ⌜ Runs r (now (out .exit)) ⌝ }
@@ -185,9 +186,10 @@ fn run(table: &mut [u16], scratch: &mut [u16], input: &mut [u8], out: &mut [u8])
     let mut outcome = Outcome::More;
     let mut reads = u64::MAX;
     while 0 < reads {
-        let relayed = read_part(present, table, scratch, input, out);
-        let next = relayed.session;
-        present = next;
+        let before = present;
+        let relayed = read_part(before, table, scratch, input, out);
+        let after = relayed.session;
+        present = after;
         outcome = relayed.outcome;
         reads = left(reads, outcome);
     }

@@ -26,8 +26,17 @@ start-requires c κs = search needs
 
 loop-holds : tie.Need-loop-holds Inv-loop μ-loop
 loop-holds c =
-    let start = c .before .before .before .before .before in
-    (refl, refl, refl, refl, record { taken = []; threads = rw (c .start .ensures, start .pre .0, start .pre .1) (threads-none begin); counted = omega arith })
+    let start = c .before .before .before .before .before in (
+      refl,
+      refl,
+      refl,
+      refl,
+      record {
+        taken = [];
+        threads = rw (c .start .ensures, start .pre .0, start .pre .1) (threads-none begin);
+        counted = omega arith;
+      },
+    )
 
 read-part-requires : tie.Need-read-part-requires Inv-loop μ-loop
 read-part-requires c κs = search needs
