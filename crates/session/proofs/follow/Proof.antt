@@ -19,7 +19,7 @@ slice-aggregate-relay c =
     sym (length-take-le _ _ (w .1))
 
 relay-requires : tie.Need-relay-requires
-relay-requires c κs = search needs
+relay-requires c κs = c .before .before .before .before .before .before .before .before .before .before .before .pre .1
 
 enum-told : tie.Need-enum-told
 enum-told c = search needs
@@ -31,16 +31,16 @@ slice-aggregate-write-all : tie.Need-slice-aggregate-write-all
 slice-aggregate-write-all c = search needs
 
 write-all-requires : tie.Need-write-all-requires
-write-all-requires c κs = search needs
+write-all-requires c κs = tt
 
 same-length : tie.Need-same-length
-same-length c = search needs
+same-length c = c .before .before .before .before .before .before .relay .kept .1 .0
 
 same-length-2 : tie.Need-same-length-2
-same-length-2 c = search needs
+same-length-2 c = c .before .before .before .before .before .before .relay .kept .1 .1 .0
 
 same-length-3 : tie.Need-same-length-3
-same-length-3 c = search needs
+same-length-3 c = c .before .before .before .before .before .before .relay .kept .1 .1 .1 .1 .0
 
 returns : tie.Need-returns
 returns c =

@@ -3,22 +3,22 @@ use Rattle.session.proofs.read_part.Statement.{statement}
 use Rattle.session.proofs.read_part.Tie as tie
 
 read-front-requires : tie.Need-read-front-requires
-read-front-requires c κs = search needs
+read-front-requires c κs = tt
 
 follow-requires : tie.Need-follow-requires
-follow-requires c κs = search needs
+follow-requires c κs = (c .before .before .before .before .before .before .read-front .ensures, c .before .before .before .before .before .before .before .before .before .before .before .before .pre)
 
 same-length : tie.Need-same-length
-same-length c = search needs
+same-length c = c .before .before .before .before .before .before .follow .kept .1 .1 .0
 
 same-length-2 : tie.Need-same-length-2
-same-length-2 c = search needs
+same-length-2 c = c .before .before .before .before .before .before .follow .kept .1 .1 .1 .0
 
 same-length-3 : tie.Need-same-length-3
-same-length-3 c = search needs
+same-length-3 c = c .before .before .before .before .before .before .before .before .before .before .before .before .before .read-front .kept .0
 
 same-length-4 : tie.Need-same-length-4
-same-length-4 c = search needs
+same-length-4 c = c .before .before .before .before .before .before .follow .kept .1 .1 .1 .1 .1 .0
 
 returns : tie.Need-returns
 returns c =

@@ -29,7 +29,7 @@ part-feed-end : tie.Need-part-feed-end Inv-loop μ-loop
 part-feed-end c = search needs
 
 feed-requires : tie.Need-feed-requires Inv-loop μ-loop
-feed-requires c κs = search needs
+feed-requires c κs = tt
 
 add-from : tie.Need-add-from Inv-loop μ-loop
 add-from c =
@@ -51,7 +51,7 @@ slice-aggregate-put c =
     sym (length-take-le _ _ (at-feed .feed .ensures .within))
 
 put-requires : tie.Need-put-requires Inv-loop μ-loop
-put-requires c κs = search needs
+put-requires c κs = tt
 
 same-length : tie.Need-same-length Inv-loop μ-loop
 same-length c =
