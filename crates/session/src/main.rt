@@ -1,4 +1,6 @@
-// A session from standard input to standard output. The program only moves bytes: what comes out is session_lines' listing of what goes in.
+// A session from standard input to standard output. Proved (specs/Threading): what goes from call to call is as session_lines' theorem on whole
+// sessions wants it. Not proved, since libc's contracts say nothing of bytes: that what is fed is the input, and that the output is written.
+use libc::STDERR_FILENO;
 use libc::STDIN_FILENO;
 use libc::STDOUT_FILENO;
 use session_lines::Session;
@@ -7,14 +9,58 @@ ghost use Prim.Native.Nat.{_≤_, _<_};
 ghost use lib.ListN.{length};
 ghost use Rattle.line_text.specs.Texts.{room};
 ghost use Rattle.session_lines.specs.Whole.{begin};
+ghost use Rattle.session.specs.Threading.{state, meaning, Within, Relays, Follows, Reads, remaining, Concludes, Runs};
 
-// After a part of the input: the session, and whether to go on; where its output could not be written there is no use.
-struct Relayed {
-    session: Session,
-    going: bool,
+// What a read gave: so many bytes, the end of the input, or a failure.
+enum Read {
+    Bytes(usize),
+    End,
+    Failed,
 }
 
-// All of a part of the input is fed, and what it gives is written.
+// How the session goes on: with more of the input, with its end, or not at all, since a read or a write failed.
+enum Outcome {
+    More,
+    End,
+    Failed,
+}
+
+struct Relayed {
+    session: Session,
+    outcome: Outcome,
+}
+
+// What an answer of libc::read means.
+fn meant(got: isize) -> Read
+    ensures { λ r. ⌜ r ≡ meaning got ⌝ }
+{
+    if got < 0 {
+        return Read::Failed;
+    }
+    if got == 0 {
+        return Read::End;
+    }
+    Read::Bytes(got as usize)
+}
+
+// One read from standard input into the buffer's front.
+fn read_front(input: &mut [u8]) -> Read
+    ensures { λ r. ⌜ Within (length (now (input .exit))) r ⌝ }
+{
+    let got = libc::read(STDIN_FILENO, input);
+    meant(got)
+}
+
+// Writes to standard output; a failure is told on standard error.
+fn put(bytes: &[u8]) -> bool {
+    if io::write_all(STDOUT_FILENO, bytes) {
+        return true;
+    }
+    io::write_all(STDERR_FILENO, b"session: writing failed\n");
+    false
+}
+
+// A part of the input is fed, and what it gives is written.
 fn relay(
     session: Session,
     table: &mut [u16],
@@ -23,29 +69,61 @@ fn relay(
     out: &mut [u8],
 ) -> Relayed
     requires { ⌜ room ≤ length (now out) ⌝ }
+    ensures { λ r. ⌜ Relays (state session (now (table .entry)) (now (scratch .entry))) (now (input .entry))
+        (r .outcome) (state (r .session) (now (table .exit)) (now (scratch .exit))) ⌝ }
 {
     let mut present = session;
     let mut from = 0;
     while from < input.len() {
-        let fed = session_lines::feed(present, table, scratch, &input[from..], out);
+        let before = present;
+        let fed = session_lines::feed(before, table, scratch, &input[from..], out);
         let next = fed.session;
         let end = fed.written;
         present = next;
         from += fed.taken;
-        if !io::write_all(STDOUT_FILENO, &out[..end]) {
+        if !put(&out[..end]) {
             return Relayed {
                 session: present,
-                going: false,
+                outcome: Outcome::Failed,
             };
         }
     }
     Relayed {
         session: present,
-        going: true,
+        outcome: Outcome::More,
     }
 }
 
-// One read, and all that it gives. At the end of the input nothing is left to do.
+// What a read put into the buffer's front is relayed. A failure is told on standard error.
+fn follow(
+    read: Read,
+    session: Session,
+    table: &mut [u16],
+    scratch: &mut [u16],
+    input: &[u8],
+    out: &mut [u8],
+) -> Relayed
+    requires { ⌜ Within (length (now input)) read × (room ≤ length (now out)) ⌝ }
+    ensures { λ r. ⌜ Follows read (state session (now (table .entry)) (now (scratch .entry))) (now (input .entry))
+        (r .outcome) (state (r .session) (now (table .exit)) (now (scratch .exit))) ⌝ }
+{
+    match read {
+        Read::Bytes(n) => relay(session, table, scratch, &input[..n], out),
+        Read::End => Relayed {
+            session: session,
+            outcome: Outcome::End,
+        },
+        Read::Failed => {
+            io::write_all(STDERR_FILENO, b"session: reading failed\n");
+            Relayed {
+                session: session,
+                outcome: Outcome::Failed,
+            }
+        }
+    }
+}
+
+// One read, and all that it gives.
 fn read_part(
     session: Session,
     table: &mut [u16],
@@ -54,44 +132,68 @@ fn read_part(
     out: &mut [u8],
 ) -> Relayed
     requires { ⌜ room ≤ length (now out) ⌝ }
+    ensures { λ r. ⌜ Reads (state session (now (table .entry)) (now (scratch .entry))) (now (input .exit))
+        (r .outcome) (state (r .session) (now (table .exit)) (now (scratch .exit))) ⌝ }
 {
-    let got = libc::read(STDIN_FILENO, input);
-    let n = io::count(got, input);
-    if n == 0 {
-        return Relayed {
-            session: session,
-            going: false,
-        };
-    }
-    relay(session, table, scratch, &input[..n], out)
+    let read = read_front(input);
+    follow(read, session, table, scratch, input, out)
 }
 
 // The reads that are left.
-fn left(reads: u64, going: bool) -> u64
+fn left(reads: u64, outcome: Outcome) -> u64
     requires { ⌜ 0 < reads ⌝ }
-    ensures { λ r. ⌜ r < reads ⌝ }
+    ensures { λ r. ⌜ r ≡ remaining reads outcome ⌝ }
 {
-    if going {
-        return reads - 1;
+    match outcome {
+        Outcome::More => reads - 1,
+        Outcome::End => 0,
+        Outcome::Failed => 0,
     }
-    0
+}
+
+// At the end of the input, and only there, a last line without its line feed is served.
+fn conclude(
+    outcome: Outcome,
+    session: Session,
+    table: &mut [u16],
+    scratch: &mut [u16],
+    out: &mut [u8],
+) -> Outcome
+    requires { ⌜ room ≤ length (now out) ⌝ }
+    ensures { λ r. ⌜ Concludes outcome (state session (now (table .entry)) (now (scratch .entry))) (now (out .entry)) r (now (out .exit)) ⌝ }
+{
+    match outcome {
+        Outcome::More => Outcome::More,
+        Outcome::Failed => Outcome::Failed,
+        Outcome::End => {
+            let end = session_lines::finish(session, table, scratch, out);
+            if put(&out[..end]) {
+                Outcome::End
+            } else {
+                Outcome::Failed
+            }
+        }
+    }
 }
 
 // It begins with the table and the scratch of the theorem on whole sessions.
-// A proved loop has to end, and nothing says that the input does: so the reads are counted down, from a number that no run uses up.
-fn run(table: &mut [u16], scratch: &mut [u16], input: &mut [u8], out: &mut [u8])
+// A proved loop has to end, and nothing says that the input does: so the reads are counted down, from a number that no input of the theorem uses up.
+fn run(table: &mut [u16], scratch: &mut [u16], input: &mut [u8], out: &mut [u8]) -> Outcome
     requires { ⌜ (now table ≡ begin .table) × (now scratch ≡ begin .scratch) × (room ≤ length (now out)) ⌝ }
+    ensures { λ r. ⌜ Runs r (now (out .exit)) ⌝ }
 {
     let mut present = Session::start();
+    let mut outcome = Outcome::More;
     let mut reads = u64::MAX;
     while 0 < reads {
-        let relayed = read_part(present, table, scratch, input, out);
-        let next = relayed.session;
-        present = next;
-        reads = left(reads, relayed.going);
+        let before = present;
+        let relayed = read_part(before, table, scratch, input, out);
+        let after = relayed.session;
+        present = after;
+        outcome = relayed.outcome;
+        reads = left(reads, outcome);
     }
-    let end = session_lines::finish(present, table, scratch, out);
-    io::write_all(STDOUT_FILENO, &out[..end]);
+    conclude(outcome, present, table, scratch, out)
 }
 
 fn main() {

@@ -1,84 +1,103 @@
-use mathlib.Core.Path.{_≡_, refl, sym, _∙_}
-use lib.Seq.{length-take-le}
+use mathlib.Core.Path.{_≡_, refl, _∙_}
+use mathlib.Core.List.{[]}
+use native.Mathlib.Omega.{arith}
 use lib.ListN.{length}
 use borrow.Author.Needs.{needs}
+use Rattle.session_lines.specs.Whole.{begin}
+use Rattle.session.specs.Threading.{state}
+use Rattle.session.proofs.ThreadingLaws.{Running, threads-none, fewer, running-read, running-ends}
 use Rattle.session.proofs.run.Statement.{statement}
 use Rattle.session.proofs.run.Tie as tie
 
 abbrev Inv-loop : tie.InvT-loop
-Inv-loop table₀ scratch₀ input₀ out₀ present₀ reads₀ table scratch input out present reads =
+Inv-loop table₀ scratch₀ input₀ out₀ present₀ outcome₀ reads₀ table scratch input out present outcome reads =
     (length table ≡ length table₀)
     × (length scratch ≡ length scratch₀)
     × (length input ≡ length input₀)
     × (length out ≡ length out₀)
+    × Running (state present table scratch) outcome reads
 
 abbrev μ-loop : tie.MeasureT-loop
-μ-loop table₀ scratch₀ input₀ out₀ present₀ reads₀ table scratch input out present reads = reads
+μ-loop table₀ scratch₀ input₀ out₀ present₀ outcome₀ reads₀ table scratch input out present outcome reads =
+    reads
 
 start-requires : tie.Need-start-requires Inv-loop μ-loop
-start-requires c κs = search needs
+start-requires c κs = tt
 
 loop-holds : tie.Need-loop-holds Inv-loop μ-loop
-loop-holds c = (refl, refl, refl, refl)
+loop-holds c =
+    let start = c .before .before .before .before .before in (
+      refl,
+      refl,
+      refl,
+      refl,
+      record {
+        taken = [];
+        threads = rw (c .start .ensures, start .pre .0, start .pre .1) (threads-none begin);
+        counted = omega arith;
+      },
+    )
 
 read-part-requires : tie.Need-read-part-requires Inv-loop μ-loop
 read-part-requires c κs = search needs
 
 left-requires : tie.Need-left-requires Inv-loop μ-loop
-left-requires c κs = search needs
+left-requires c κs = c .before .before .before .before .before .before .before .before .before .before .before .before .before .before .loop-test .taken
 
 loop-less : tie.Need-loop-less Inv-loop μ-loop
-loop-less c = search needs
+loop-less c =
+    let at-read-part = c .before .before .before .before .before .before .before .before .before .before in
+    let at-loop-test = at-read-part .before .before .before .before .before in
+    rw (c .left .ensures) (fewer _ (at-read-part .read-part .result .outcome) (at-loop-test .loop-test .taken))
 
 loop-again : tie.Need-loop-again Inv-loop μ-loop
 loop-again c =
     let at-read-part = c .before .before .before .before .before .before .before .before .before .before in
-    let at-loop = at-read-part .before .before .before .before .before .before in
-    let kept = at-read-part .read-part .kept in
-    let inv = at-loop .loop .inv in
-    (kept .1 .0 ∙ inv .0, kept .1 .1 .0 ∙ inv .1, kept .1 .1 .1 .0 ∙ inv .2, kept .1 .1 .1 .1 .0 ∙ inv .3)
+    let at-loop-test = at-read-part .before .before .before .before .before in
+    let at-loop = at-loop-test .before in
+    let k = at-read-part .read-part in
+    let inv = at-loop .loop .inv in (
+      k .kept .1 .0 ∙ inv .0,
+      k .kept .1 .1 .0 ∙ inv .1,
+      k .kept .1 .1 .1 .0 ∙ inv .2,
+      k .kept .1 .1 .1 .1 .0 ∙ inv .3,
+      rw (c .left .ensures) (running-read (inv .4) (at-loop-test .loop-test .taken) (k .ensures)),
+    )
 
-finish-requires : tie.Need-finish-requires Inv-loop μ-loop
-finish-requires c κs = search needs
-
-slice-reshare-prefix-write-all : tie.Need-slice-reshare-prefix-write-all Inv-loop μ-loop
-slice-reshare-prefix-write-all c =
-    let at-finish = c .before .before .before .before .before .before in
-    at-finish .finish .ensures .within
-
-slice-aggregate-write-all : tie.Need-slice-aggregate-write-all Inv-loop μ-loop
-slice-aggregate-write-all c =
-    let at-finish = c .before .before .before .before .before .before .before in
-    sym (length-take-le _ _ (at-finish .finish .ensures .within))
-
-write-all-requires : tie.Need-write-all-requires Inv-loop μ-loop
-write-all-requires c κs = search needs
+conclude-requires : tie.Need-conclude-requires Inv-loop μ-loop
+conclude-requires c κs = search needs
 
 same-length : tie.Need-same-length Inv-loop μ-loop
 same-length c =
-    let at-finish = c .before .before .before .before .before .before .before .before in
-    let at-loop = at-finish .before .before .before .before .before in
-    at-finish .finish .kept .1 .0 ∙ at-loop .loop .inv .0
+    let at-conclude = c .before .before .before .before .before .before in
+    let at-loop = at-conclude .before .before .before .before .before in
+    at-conclude .conclude .kept .1 .1 .0 ∙ at-loop .loop .inv .0
 
 same-length-2 : tie.Need-same-length-2 Inv-loop μ-loop
 same-length-2 c =
-    let at-finish = c .before .before .before .before .before .before .before .before in
-    let at-loop = at-finish .before .before .before .before .before in
-    at-finish .finish .kept .1 .1 .0 ∙ at-loop .loop .inv .1
+    let at-conclude = c .before .before .before .before .before .before in
+    let at-loop = at-conclude .before .before .before .before .before in
+    at-conclude .conclude .kept .1 .1 .1 .0 ∙ at-loop .loop .inv .1
 
 same-length-3 : tie.Need-same-length-3 Inv-loop μ-loop
 same-length-3 c =
-    let at-loop = c .before .before .before .before .before .before .before .before .before .before .before .before .before in
+    let at-loop = c .before .before .before .before .before .before .before .before .before .before .before in
     at-loop .loop .inv .2
 
 same-length-4 : tie.Need-same-length-4 Inv-loop μ-loop
 same-length-4 c =
-    let at-finish = c .before .before .before .before .before .before .before .before in
-    let at-loop = at-finish .before .before .before .before .before in
-    at-finish .finish .kept .1 .1 .1 .0 ∙ at-loop .loop .inv .3
+    let at-conclude = c .before .before .before .before .before .before in
+    let at-loop = at-conclude .before .before .before .before .before in
+    at-conclude .conclude .kept .1 .1 .1 .1 .0 ∙ at-loop .loop .inv .3
 
 returns : tie.Need-returns Inv-loop μ-loop
-returns c = search needs
+returns c =
+    let at-conclude = c .before .before .before .before .before .before in
+    let at-loop-test = at-conclude .before .before .before .before in
+    let at-loop = at-loop-test .before in
+    let l = at-loop .loop in
+    let none : l .reads ≡ 0 = omega arith in
+    running-ends (l .out) _ (l .outcome) _ (rw none at (l .inv .4)) (at-conclude .conclude .ensures)
 
 pub run-spec : {M : Type 1} → statement M
 run-spec =
@@ -92,10 +111,7 @@ run-spec =
     left-requires
     loop-less
     loop-again
-    finish-requires
-    slice-reshare-prefix-write-all
-    slice-aggregate-write-all
-    write-all-requires
+    conclude-requires
     same-length
     same-length-2
     same-length-3

@@ -1,0 +1,98 @@
+-- What the session program hands on: the calls of `feed` make a list of parts as the theorem on whole sessions wants it (session_lines/specs/Whole).
+-- That a part's input is what was read, and that its output is written, cannot be stated: libc's contracts say nothing of the bytes.
+use mathlib.Core.Path.{_≡_}
+use mathlib.Core.List.{List, _++_}
+use Prim.Native.Nat.{ℕ, zero, suc, _+_, _-_, _^_, _≤_, _<_}
+use lib.ListN.{length, take}
+use lib.IntN.{ℤ, pos, negsuc}
+use Rattle.session_lines.specs.declared.Session.{Session}
+use Rattle.session_lines.specs.Listing.{listing}
+use Rattle.session_lines.specs.Progress.{Finishes}
+use Rattle.session_lines.specs.Whole.{State, Part, Fed, lastState, inputs, outputs, begin}
+use Rattle.session.specs.declared.Read
+use Rattle.session.specs.declared.Read.{Read}
+use Rattle.session.specs.declared.Outcome
+use Rattle.session.specs.declared.Outcome.{Outcome}
+
+abbrev pub state : Session → List ℕ → List ℕ → State
+state s table scratch = record { session = s; table = table; scratch = scratch }
+
+-- what an answer of `libc::read` means
+abbrev pub meaning : ℤ → Read
+meaning (pos zero) = Read.End
+meaning (pos (suc k)) = Read.Bytes (suc k)
+meaning (negsuc k) = Read.Failed
+
+-- bytes that were read are some, and have room in a buffer of this length
+abbrev pub Within : ℕ → Read → Type 0
+Within size (Read.Bytes n) = (0 < n) × (n ≤ size)
+Within size Read.End = Unit {0}
+Within size Read.Failed = Unit {0}
+
+-- some calls of `feed`, each handed the state that the last one left, lead from s to s′ and take these bytes
+pub record Threads (s : State) (taken : List ℕ) (s′ : State) : Type 0 where
+  pub parts : List Part
+  pub fed : Fed s parts
+  pub last : lastState s parts ≡ s′
+  pub joined : inputs parts ≡ taken
+
+-- of a part of the input all was taken if there is to be more, else some of it; the input does not end there
+abbrev pub Taken : Outcome → ℕ → List ℕ → Type 0
+Taken Outcome.More n input = n ≡ length input
+Taken Outcome.End n input = ⊥
+Taken Outcome.Failed n input = n ≤ length input
+
+-- a part of the input is taken from its front on
+pub record Relays (s : State) (input : List ℕ) (outcome : Outcome) (s′ : State) : Type 0 where
+  pub taken : ℕ
+  pub threads : Threads s (take taken input) s′
+  pub reached : Taken outcome taken input
+
+-- after a read into the buffer its bytes are relayed; at the end of the input and after a failure nothing is fed
+abbrev pub Follows : Read → State → List ℕ → Outcome → State → Type 0
+Follows (Read.Bytes n) s buffer outcome s′ = Relays s (take n buffer) outcome s′
+Follows Read.End s buffer outcome s′ = (outcome ≡ Outcome.End) × (s′ ≡ s)
+Follows Read.Failed s buffer outcome s′ = (outcome ≡ Outcome.Failed) × (s′ ≡ s)
+
+-- one read, whatever it gave
+pub record Reads (s : State) (buffer : List ℕ) (outcome : Outcome) (s′ : State) : Type 0 where
+  pub read : Read
+  pub within : Within (length buffer) read
+  pub follows : Follows read s buffer outcome s′
+
+-- the reads that are left: none but where there is to be more
+abbrev pub remaining : ℕ → Outcome → ℕ
+remaining reads Outcome.More = reads - 1
+remaining reads Outcome.End = 0
+remaining reads Outcome.Failed = 0
+
+-- the buffer's front is all that was ahead, and nothing is to come
+pub record Finished (s : State) (result : Outcome) (out : List ℕ) : Type 0 where
+  pub written : ℕ
+  pub finishes : Finishes (s .session) (s .table) (s .scratch) written out
+  pub over : result ≡ Outcome.More → ⊥
+
+-- only at the end of the input the session is finished, else nothing is done
+abbrev pub Concludes : Outcome → State → List ℕ → Outcome → List ℕ → Type 0
+Concludes Outcome.More s out result new = (result ≡ Outcome.More) × (new ≡ out)
+Concludes Outcome.End s out result new = Finished s result new
+Concludes Outcome.Failed s out result new = (result ≡ Outcome.Failed) × (new ≡ out)
+
+-- `finish` kept its promise at the state that the parts lead to; so, by the theorem on whole sessions, the parts' outputs and the buffer's front
+-- joined are the listing of the parts' inputs joined
+pub record Listed (parts : List Part) (out : List ℕ) : Type 0 where
+  pub written : ℕ
+  pub finishes : Finishes (lastState begin parts .session) (lastState begin parts .table) (lastState begin parts .scratch) written out
+  pub listed : length (inputs parts) + 1 < 2 ^ 64 → outputs parts ++ take written out ≡ listing (inputs parts)
+
+-- how a run ends; no input of the theorem's length uses up the counted reads
+abbrev pub Ends : Outcome → List Part → List ℕ → Type 0
+Ends Outcome.More parts out = 2 ^ 64 ≤ length (inputs parts) + 1
+Ends Outcome.End parts out = Listed parts out
+Ends Outcome.Failed parts out = Unit {0}
+
+-- a whole run: parts from the beginning, and how it ends
+pub record Runs (outcome : Outcome) (out : List ℕ) : Type 0 where
+  pub parts : List Part
+  pub fed : Fed begin parts
+  pub ends : Ends outcome parts out
