@@ -3,7 +3,7 @@ use mathlib.Core.Path.{_≡_, refl, sym, ap, _∙_}
 use mathlib.Core.Logic.{⊎-elim}
 use mathlib.Core.Bool.{Bool, true, false, cond, not, _&&_, and-comm}
 use mathlib.Core.List.{List, [], _∷_}
-use Prim.Native.Nat.{ℕ, suc, pred, _<_}
+use Prim.Native.Nat.{ℕ, pred, _<_}
 use native.Mathlib.Omega.{arith}
 use lib.ListN.{length, getD}
 use Rattle.machine.specs.declared.Queue.{Queue}
@@ -30,7 +30,7 @@ use Rattle.machine.proofs.Answers.{refusal-some}
 use Rattle.machine.proofs.Questions.{asked-lent}
 use Rattle.machine.proofs.Kept.{Framed, framed-changes}
 use Rattle.machine.specs.ShortWay.{watchedOf, watched, staysRoot}
-use Rattle.marks.specs.Marks.{isMarked, Marks}
+use Rattle.marks.specs.Marks.{Marks}
 use Rattle.collector.specs.declared.Stepped.{Stepped}
 use Rattle.collector.specs.Changes.{tooLarge, moveFitting, applyFitting}
 use Rattle.collector.specs.SweepPass.{isDead, Sweeps}

@@ -4,8 +4,9 @@ use mathlib.Core.Logic.{⊎-elim}
 use mathlib.Core.Bool.{Bool, true, false, _||_}
 use mathlib.Core.Bool.{or-false as or-none}
 use mathlib.Core.List.{List, [], _∷_, _++_}
-use Prim.Native.Nat.{ℕ, zero, suc, _+_, _-_, _%_, _≤_}
+use Prim.Native.Nat.{ℕ, zero, suc, _+_, _-_, _%_, _≤_, _<_}
 use native.Mathlib.Omega.{arith}
+use native.Mathlib.Decide.{le-ind}
 use native.Mathlib.Numerals.{add-one, sub-one}
 use lib.Dec.{ltb, eqb}
 use borrow.Author.Tests.{eq-eqb, ne-eqb}
@@ -16,7 +17,7 @@ use Rattle.machine.specs.Queue.{Packet, slots, slot, packetsFrom}
 use Rattle.machine.specs.Packets.{Kind, reads, makes, replaces, raises, lowers, unknown, kindOf, namesOf, names, contains, isNamed}
 use Rattle.machine.specs.Reached.{isRoot}
 use Rattle.machine.specs.ShortWay.{watchedOf, staysRoot}
-use Rattle.machine.proofs.Range.{tested, or-false}
+use Rattle.machine.proofs.Range.{tested, or-left, or-right, or-false}
 use Rattle.machine.proofs.Words.{cell-number}
 use Rattle.machine.proofs.Ring.{packets-snoc}
 use Rattle.queue.proofs.Totals.{kind-unknown}
@@ -99,12 +100,6 @@ module _ (x y z w : ℕ) where
   unfolding contains
   among-third d g = rw (ne-eqb x w d, ne-eqb y w g) (sym (or-none (eqb z w)))
 
-  pub or-among : (found r : Bool) (ws : List ℕ) → found ≡ false → x ∷ y ∷ z ∷ [] ≡ ws → r ≡ contains (x ∷ y ∷ z ∷ []) w → r ≡ found || contains ws w
-  or-among found r ws f e h = rw (f, ← e) h
-
-  pub or-none-of-three : (found : Bool) (k : Kind) → found ≡ false → 1 ≤ w → contains (x ∷ y ∷ z ∷ []) w ≡ false → false ≡ found || contains (threeOf k x y z) w
-  or-none-of-three found k f l e = rw (f, none-of-three k x y z w l e)
-
 isNamed-snoc : (ps : List Packet) (p : Packet) (w : ℕ) → isNamed (ps ++ (p ∷ [])) w ≡ isNamed ps w || contains (names p) w
 unfolding isNamed
 isNamed-snoc [] p w = or-none (contains (names p) w)
@@ -119,12 +114,29 @@ pub named-none : (q : Queue) (j w : ℕ) → false ≡ isNamed (packetsFrom q j 
 unfolding packetsFrom isNamed
 named-none q j w = refl
 
-pub named-more : (q : Queue) (j n w : ℕ) (found r : Bool) → 1 ≤ w → found ≡ isNamed (packetsFrom q j n) w
-    → r ≡ found || contains (threeNames (slot q ((j + n) % slots))) w → r ≡ isNamed (packetsFrom q j (n + 1)) w
-named-more q j n w found r h e f =
-    let p = slot q ((j + n) % slots) in
-    f ∙ rw (e, contains-three p w h) (sym (isNamed-snoc (packetsFrom q j n) p w))
-    ∙ ap (λ (ps : List Packet). isNamed ps w) (sym (packets-snoc q j n)) ∙ ap (λ (m : ℕ). isNamed (packetsFrom q j m) w) (sym (add-one n))
+-- one packet more
+module _ (q : Queue) (j n w : ℕ) (h : 1 ≤ w) where
+  abbrev next : Bool
+  next = contains (threeNames (slot q ((j + n) % slots))) w
+
+  named-next : isNamed (packetsFrom q j (suc n)) w ≡ isNamed (packetsFrom q j n) w || next
+  named-next =
+      let p = slot q ((j + n) % slots) in
+      ap (λ (ps : List Packet). isNamed ps w) (packets-snoc q j n) ∙ isNamed-snoc (packetsFrom q j n) p w
+      ∙ ap (λ (b : Bool). isNamed (packetsFrom q j n) w || b) (sym (contains-three p w h))
+
+  pub named-still : (r : Bool) → r ≡ next → r ≡ false → false ≡ isNamed (packetsFrom q j n) w → false ≡ isNamed (packetsFrom q j (n + 1)) w
+  named-still r f d e = rw (add-one n, named-next, ← e, ← f) (sym d)
+
+  named-here : next ≡ true → isNamed (packetsFrom q j (suc n)) w ≡ true
+  named-here f = named-next ∙ or-right (isNamed (packetsFrom q j n) w) f
+
+-- a packet that names w does so whatever waits behind it
+pub named-found : (q : Queue) (j n m w : ℕ) → 1 ≤ w → n < m → (r : Bool) → r ≡ contains (threeNames (slot q ((j + n) % slots))) w → r ≡ true
+    → true ≡ isNamed (packetsFrom q j m) w
+named-found q j n m w h l r f d =
+    sym (le-ind (λ (k : ℕ). isNamed (packetsFrom q j k) w ≡ true) (named-here q j n w h (sym f ∙ d))
+    (λ k _ e. named-next q j k w h ∙ or-left (contains (threeNames (slot q ((j + k) % slots))) w) e) m l)
 
 -- roots
 module _ (t : List ℕ) (ps : List Packet) (w : ℕ) where

@@ -3,7 +3,6 @@ use machine::Queue;
 use questions::is_cell;
 use queue::Packet;
 ghost use mathlib.Core.Path.{_≡_};
-ghost use mathlib.Core.Bool.{_||_};
 ghost use mathlib.Core.List.{[], _∷_};
 ghost use Prim.Native.Nat.{suc, _≤_};
 ghost use lib.Dec.{ltb};
@@ -49,14 +48,11 @@ fn among(x: u16, y: u16, z: u16, w: u16) -> bool
     z == w
 }
 
-// Whether a packet names the cell w, or one was found before. Most packets do not have it among their words at all.
-fn or_named(found: bool, kind: u16, a: u16, b: u16, c: u16, w: u16) -> bool
+// Whether a packet names the cell w. Most packets do not have it among their words at all.
+fn names_cell(kind: u16, a: u16, b: u16, c: u16, w: u16) -> bool
     requires { ⌜ 1 ≤ w ⌝ }
-    ensures { λ r. ⌜ r ≡ found || contains (threeOf (kindOf kind) a b c) w ⌝ }
+    ensures { λ r. ⌜ r ≡ contains (threeOf (kindOf kind) a b c) w ⌝ }
 {
-    if found {
-        return true;
-    }
     if among(a, b, c, w) {
         let n = names_of(kind, a, b, c);
         return among(n.x, n.y, n.z, w);
@@ -71,14 +67,15 @@ fn named(queue: Queue, w: u16) -> bool
 {
     let place = queue.place;
     let count = queue.count;
-    let mut found = false;
     let mut i: u16 = 0;
     while i < count {
         let j = queue::slot_after(place, i);
-        found = or_named(found, queue.kinds[j], queue.a[j], queue.b[j], queue.c[j], w);
+        if names_cell(queue.kinds[j], queue.a[j], queue.b[j], queue.c[j], w) {
+            return true;
+        }
         i += 1;
     }
-    found
+    false
 }
 
 // Whether a cell's root count is above 0.

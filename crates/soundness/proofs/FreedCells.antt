@@ -23,7 +23,7 @@ use Rattle.machine.proofs.Chain.{linked-indices}
 use Rattle.machine.proofs.Reached.{reached-is}
 use Rattle.machine.proofs.Select.{select-indices, select-once, dead-is}
 use Rattle.machine.proofs.Sweep.{sweeps}
-use Rattle.soundness.proofs.Views.{nil-no-cell, View, shown, entries, seen, seen-same, seen-none, Same, All, all-map, Detached, earlier, earlier-same, earlier-entry, stages-same}
+use Rattle.soundness.proofs.Views.{nil-no-cell, View, shown, entries, seen, seen-same, seen-none, Same, All, all-map, earlier, earlier-same, earlier-entry, stages-same}
 use Rattle.soundness.proofs.LegalPackets.{Fit, fit-nil, LegalPacket, WrittenIn, legal-written, named-fit, named-detached, written-map}
 use Rattle.soundness.proofs.Stages.{shown-used, shown-free}
 use Rattle.soundness.proofs.Facts.{Facts, Live, last-within, free-zero, all-below}

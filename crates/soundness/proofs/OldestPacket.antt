@@ -8,7 +8,7 @@ use native.Mathlib.Omega.{arith}
 use lib.Dec.{ltb}
 use borrow.Author.Tests.{leb-true}
 use Rattle.machine.specs.Words.{ceiling}
-use Rattle.machine.specs.Table.{stride, left, right, rootCount, cellCount, state, capacity, firstFree, wordAt, inUse}
+use Rattle.machine.specs.Table.{stride, right, rootCount, cellCount, state, capacity, firstFree, wordAt, inUse}
 use Rattle.machine.specs.Queue.{Packet}
 use Rattle.machine.specs.Packets.{Counter, root, cell, plus, minus, Change, changes, uses}
 use Rattle.machine.specs.Step.{counterWord, moveCount, applyChanges}

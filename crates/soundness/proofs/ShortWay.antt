@@ -8,7 +8,6 @@ use native.Mathlib.Omega.{arith}
 use lib.Dec.{ltb, eqb}
 use borrow.Author.Tests.{eqb-true, ltb-true, lt-ltb}
 use Rattle.machine.specs.declared.Queue.{Queue}
-use Rattle.machine.specs.Range.{matching}
 use Rattle.machine.specs.Words.{isCell, isLegal}
 use Rattle.machine.specs.Table.{left, right, rootCount, capacity, wordAt, inUse}
 use Rattle.machine.specs.Queue.{Packet, waiting}

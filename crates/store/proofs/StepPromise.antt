@@ -1,31 +1,30 @@
 -- What `collector` proves of a step is the promise: a sound store meets its premises.
-use mathlib.Core.Path.{_≡_, refl, sym, ap, ap₂, _∙_}
-use mathlib.Core.Logic.{_⊎_, inl, inr, ⊎-elim}
-use mathlib.Core.Bool.{Bool, true}
-use mathlib.Core.List.{List, [], _∷_, _++_, append-nil}
-use Prim.Native.Nat.{ℕ, zero, suc, pred, _+_, _≤_, _<_}
+use mathlib.Core.Path.{_≡_, refl, ap, _∙_}
+use mathlib.Core.Logic.{⊎-elim}
+use mathlib.Core.Bool.{true}
+use mathlib.Core.List.{List, [], _∷_, append-nil}
+use Prim.Native.Nat.{ℕ, zero, suc, pred, _≤_, _<_}
 use native.Mathlib.Omega.{arith}
 use lib.ListN.{length}
 use Rattle.machine.specs.declared.Queue.{Queue}
-use Rattle.machine.specs.Range.{matching}
 use Rattle.machine.specs.Words.{isCell, ceiling}
-use Rattle.machine.specs.Table.{rootCount, cellCount, capacity, tableLength, wordAt}
-use Rattle.machine.specs.Queue.{Packet, slots, slot, packetsFrom, waiting, taken}
-use Rattle.machine.specs.Packets.{Counter, root, cell, Direction, Change, changes, contains}
-use Rattle.machine.specs.Calls.{step, Reply, refused, idle, Store, store}
+use Rattle.machine.specs.Table.{capacity, tableLength, wordAt}
+use Rattle.machine.specs.Queue.{Packet, packetsFrom, waiting, taken}
+use Rattle.machine.specs.Packets.{Counter, root, cell, Change, changes}
+use Rattle.machine.specs.Calls.{step, idle, Store, store}
 use Rattle.machine.specs.Step.{counterWord, shifted, moveCount, Outcome, outcome, stepFrom, stepped}
 use Rattle.machine.specs.Questions.{firstNo, early, late, questions}
 use Rattle.machine.specs.Audit.{Sound}
 use Rattle.machine.specs.Machine.{accepted, machine}
 use Rattle.machine.specs.Answers.{stepReply}
-use Rattle.machine.specs.Promise.{Decided, numbers, Promise}
+use Rattle.machine.specs.Promise.{Decided, Promise}
 use Rattle.machine.proofs.Range.{matching-same, lt-or-ge}
 use Rattle.machine.proofs.Words.{cell-index, cell-number}
 use Rattle.machine.proofs.Moves.{length-move, capacity-move, count-move}
 use Rattle.machine.proofs.Ring.{waiting-taken}
 use Rattle.machine.proofs.Questions.{shape-is}
 use Rattle.machine.proofs.Kept.{machine-accepted, machine-refused}
-use Rattle.soundness.specs.Untrimmed.{Passes, AllPass, Untrimmed}
+use Rattle.soundness.specs.Untrimmed.{Passes, AllPass}
 use Rattle.soundness.proofs.Untrimmed.{untrimmed}
 use Rattle.soundness.proofs.ShortWay.{nothing-freed}
 use Rattle.collector.specs.declared.Stepped.{Stepped}
