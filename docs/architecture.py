@@ -164,7 +164,7 @@ def call():
     d.box("lent", 215, 440, 170, 62, "code", ["questions::lent", "1 and 2"])
     d.box("take", 410, 440, 190, 62, "code", ["queue::take", "the oldest packet;", "none waiting: idle"])
     d.box("apply", 625, 440, 190, 62, "code", ["collector, cells", "its count changes", "one by one"])
-    d.box("stay", 840, 440, 200, 62, "code", ["marks::roots", "is every cell that it", "names still a root?"])
+    d.box("stay", 840, 440, 200, 62, "code", ["marks::roots", "is the watched word", "still a root?"])
     d.box("mark", 625, 550, 190, 62, "code", ["marks::mark", "every reached cell,", "in the scratch"])
     d.box("sweep", 410, 550, 190, 62, "code", ["collector, cells", "sweep: free the rest,", "lower, join the free list"])
     d.box("clear", 215, 550, 170, 62, "code", ["marks::clear", "the scratch"])
