@@ -52,15 +52,18 @@ expect 'input is a folder' nothing reading
 "$session" <&- >out 2>err
 expect 'input closed' nothing reading
 
-# A pipe with a line and a half, and more to come: after them a read that does not wait fails. The half line has no answer.
+# A pipe with a line and a half that stays open for two seconds: after them a read that does not wait fails. The half line has no answer.
 mkfifo pipe
-exec 3<>pipe
+exec 3<>pipe 4<pipe
 printf 'fresh 3\nste' >&3
-if dd iflag=nonblock count=0 <&3 2>dd; then
-    "$session" <&3 >out 2>err
+sleep 2 >/dev/null 4<&- &
+exec 3>&-
+if dd iflag=nonblock count=0 <&4 2>dd; then
+    "$session" <&4 >out 2>err
 else
     cat dd >err
 fi
+kill $! 2>dd
 echo '1 OK 0' >answered
 expect 'a read fails within a line' answered reading
 
