@@ -16,4 +16,5 @@ pub mod Answers
 pub mod Promise
 pub mod Counters
 pub mod Cases
+-- what a step's code asks before it marks: no promise speaks of it
 pub mod ShortWay
