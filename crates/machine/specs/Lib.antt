@@ -17,5 +17,6 @@ pub mod Promise
 pub mod AuditedSound
 pub mod Counters
 pub mod Cases
+-- what a step's code asks before it marks: no promise speaks of it
 pub mod ShortWay
 pub mod WrongAnswers

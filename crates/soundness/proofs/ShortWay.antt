@@ -94,22 +94,18 @@ module _ (t : List ℕ) (p : Packet) (ps : List Packet) (f : Facts t (p ∷ ps))
           where
             new : Reached u ps (pred c)
             new =
-                let n = and-second (isLegal (capacity t) a && isLegal (capacity t) b) (isCell (capacity t) c) legal in
-                kept (pred c) (cell-index (capacity t) c n) (cell-number (capacity t) c n)
-        go (replaces k) a b c legal written holds kept held counted = names-three Kept a b c (written-kept (pred c) k a written holds (x (pred c) below-c number)) kept x
+                let number = and-second (isLegal (capacity t) a && isLegal (capacity t) b) (isCell (capacity t) c) legal in
+                kept (pred c) (cell-index (capacity t) c number) (cell-number (capacity t) c number)
+        go (replaces k) a b c legal written holds kept held counted =
+            names-three Kept a b c (written-kept (pred c) k a written holds (replaced (pred c) (cell-index (capacity t) c number) (cell-number (capacity t) c number)))
+            kept replaced
           where
-            n : isCell (capacity t) c ≡ true
-            n = and-second (isLegal (capacity t) a && isLegal (capacity t) b) (isCell (capacity t) c) legal
-
-            below-c : pred c < capacity t
-            below-c = cell-index (capacity t) c n
-
-            number : c ≡ suc (pred c)
-            number = cell-number (capacity t) c n
+            number : isCell (capacity t) c ≡ true
+            number = and-second (isLegal (capacity t) a && isLegal (capacity t) b) (isCell (capacity t) c) legal
 
             -- held besides the word put, whose hold alone is given up
-            x : Kept c
-            x i l e = counted i l (omega (arith, held i l, matching-same c (suc i) 1 e))
+            replaced : Kept c
+            replaced i l e = counted i l (omega (arith, held i l, matching-same c (suc i) 1 e))
         go raises a b c legal written holds kept held counted = names-one Kept a raised
           where
             raised : Kept a
