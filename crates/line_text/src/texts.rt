@@ -4,7 +4,7 @@ ghost use mathlib.Core.Path.{_≡_};
 ghost use mathlib.Core.List.{_++_};
 ghost use Prim.Native.Nat.{_+_, _^_, _≤_, _<_};
 ghost use lib.ListN.{length, take};
-ghost use Rattle.line_text.specs.Texts.{digits, mostDigits, decimal, wordLength, verdictRoom, verdictText, room, outputLine};
+ghost use Rattle.line_text.specs.Texts.{digits, mostDigits, decimal, wordLength, verdictRoom, verdictText, room};
 ghost use Rattle.line_text.specs.Put.{Put, Shows, numbered, CountsUp};
 
 // No number here has more digits.
@@ -67,16 +67,6 @@ fn put_verdict(out: &mut [u8], at: usize, verdict: Verdict) -> usize
     }
 }
 
-pub fn put_line(out: &mut [u8], at: usize, number: u64, verdict: Verdict) -> usize
-    requires { ⌜ at + room ≤ length (now out) ⌝ }
-    ensures { λ r. ⌜ Put (now (out .entry)) at (outputLine number verdict) (now (out .exit)) r ⌝ }
-{
-    let numbered = put_digits(out, at, MOST_DIGITS, number);
-    let spaced = put_word(out, numbered, b" ");
-    let told = put_verdict(out, spaced, verdict);
-    put_word(out, told, b"\n")
-}
-
 // A text's first bytes. All of it is copied, which takes no test; what is past them is written over.
 fn put_number(out: &mut [u8], at: usize, text: &[u8; MOST_DIGITS], size: usize) -> usize
     requires { ⌜ (at + mostDigits ≤ length (now out)) × (length (now text) ≡ mostDigits) × (size ≤ mostDigits) ⌝ }
@@ -129,7 +119,7 @@ pub fn count_up(text: &mut [u8; MOST_DIGITS], size: usize, number: u64) -> usize
 
 // No input has so many lines that the number stops.
 pub fn next_number(lines: u64) -> u64
-    ensures { λ r. ⌜ (r ≤ lines + 1) × (lines + 1 < 2 ^ 64 → r ≡ lines + 1) ⌝ }
+    ensures { λ r. ⌜ (lines ≤ r) × (r ≤ lines + 1) × (lines + 1 < 2 ^ 64 → r ≡ lines + 1) ⌝ }
 {
     if lines < u64::MAX {
         return lines + 1;
