@@ -8,7 +8,7 @@ use native.Mathlib.Omega.{arith}
 use lib.Dec.{leb, eqb}
 use lib.ListN.{length, getD, drop, drop-of-length-le}
 use lib.Seq.{drop-cons}
-use borrow.Author.Tests.{eq-eqb, ne-eqb, le-leb, lt-leb}
+use borrow.Author.Tests.{eq-eqb, ne-eqb, eqb-true, le-leb, lt-leb}
 use Rattle.line_text.specs.declared.Operand
 use Rattle.line_text.specs.declared.Operand.{Operand}
 use Rattle.line_text.specs.Bytes.{digitZero, digitNine, sameBytes, before}
@@ -35,6 +35,17 @@ same-lengths (x ∷ u) (y ∷ v) h = rw (same-lengths u v (λ e. h (ap suc e))) 
     and-false : (b : Bool) → (b && false) ≡ false
     and-false true = refl
     and-false false = refl
+
+pub same-equal : (u v : List ℕ) → sameBytes u v ≡ true → u ≡ v
+unfolding sameBytes
+same-equal [] [] h = refl
+same-equal [] (y ∷ v) h = cc
+same-equal (x ∷ u) [] h = cc
+same-equal (x ∷ u) (y ∷ v) h = go (eqb x y) refl h (same-equal u v)
+  where
+    go : (t : Bool) → eqb x y ≡ t → (t && sameBytes u v) ≡ true → (sameBytes u v ≡ true → u ≡ v) → x ∷ u ≡ y ∷ v
+    go true e l rest = rw (eqb-true x y e, rest l)
+    go false e l rest = cc
 
 module _ (a b : List ℕ) (i : ℕ) where
   pub same-step : i < length a → i < length b → getD a i 0 ≡ getD b i 0 → sameBytes (drop i a) (drop i b) ≡ sameBytes (drop (i + 1) a) (drop (i + 1) b)

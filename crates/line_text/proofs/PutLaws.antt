@@ -7,14 +7,14 @@ use native.Mathlib.Nat.{add-assoc, add-zero}
 use native.Mathlib.Numerals.{add-one, sub-one}
 use native.Mathlib.Omega.{arith}
 use lib.Dec.{ltb}
-use lib.ListN.{length, take, getD, set, length-append}
-use lib.Seq.{take-all, take-suc, take-suc-set}
+use lib.ListN.{length, take, getD, set, length-append, length-set}
+use lib.Seq.{take-all, take-suc, take-suc-set, take-take, take-append-add, take-at, length-take-le}
 use borrow.Author.Tests.{lt-ltb, le-ltb, ltb-true, ltb-false}
 use Rattle.line_text.specs.declared.Verdict
 use Rattle.line_text.specs.declared.Verdict.{Verdict}
 use Rattle.line_text.specs.Bytes.{digitZero}
 use Rattle.line_text.specs.Texts.{digits, mostDigits, verdictRoom, verdictText, room, outputLine}
-use Rattle.line_text.specs.Put.{Put}
+use Rattle.line_text.specs.Put.{Put, Shows, CountsUp, numbered}
 
 -- two texts are one
 pub put-both : {a b d : List ℕ} {at m r : ℕ} {u v : List ℕ} → Put a at u b m → Put b m v d r → Put a at (u ++ v) d r
@@ -97,3 +97,84 @@ pub output-length : (n : ℕ) (v : Verdict) → length (outputLine n v) ≤ room
 unfolding outputLine
 output-length n v =
     simp length-append (omega (arith, digits-length mostDigits n, verdict-length v))
+
+-- of the word only the front is meant
+pub word-front : (out new word : List ℕ) (at i n : ℕ) → at ≤ length out → n ≤ i → n ≤ length word → take (at + i) new ≡ take at out ++ take i word
+    → Put out at (take n word) new (at + n)
+word-front out new word at i n h l m e =
+    let size : length (take at out) ≡ at = length-take-le at out h in
+    record {
+      front =
+          sym (take-take (at + n) (at + i) new (omega arith))
+          ∙ ap (take (at + n)) e
+          ∙ ap (λ (k : ℕ). take (k + n) (take at out ++ take i word)) (sym size)
+          ∙ take-append-add (take at out) (take i word) n
+          ∙ ap (λ (l : List ℕ). take at out ++ l) (take-take n i word l);
+      ends = ap (λ (k : ℕ). at + k) (sym (length-take-le n word m));
+    }
+
+pub digits-some : (most n : ℕ) → 0 < most → 0 < length (digits most n)
+digits-some most n h = go (ltb n 10) refl
+  where
+    go : (t : Bool) → ltb n 10 ≡ t → 0 < length (digits most n)
+    go true e = rw (digits-one most n h (ltb-true n 10 e)) (omega arith)
+    go false e = rw (digits-more most n h (ltb-false n 10 e)) (simp length-append (omega arith))
+
+-- within a ten the digits before the last are the same
+pub record Ten (most a b : ℕ) : Type 0 where
+  pub tens : List ℕ
+  pub one : digits most a ≡ tens ++ ((digitZero + a % 10) ∷ [])
+  pub other : digits most b ≡ tens ++ ((digitZero + b % 10) ∷ [])
+
+pub ten : (most a b : ℕ) → 0 < most → a / 10 ≡ b / 10 → Ten most a b
+ten most a b h e = go (ltb a 10) refl
+  where
+    go : (t : Bool) → ltb a 10 ≡ t → Ten most a b
+    go true l =
+        let la : a < 10 = ltb-true a 10 l in
+        let ra : a % 10 ≡ a = omega arith in
+        let rb : b % 10 ≡ b = omega arith in
+        record { tens = []; one = rw ra (digits-one most a h la); other = rw rb (digits-one most b h (omega arith)) }
+    go false l =
+        let la : 10 ≤ a = ltb-false a 10 l in
+        record { tens = digits (most - 1) (a / 10); one = digits-more most a h la; other = rw e (digits-more most b h (omega arith)) }
+
+-- the last of the bytes meant is another
+last-set : (text front : List ℕ) (size d e : ℕ) → 0 < size → size ≤ length text → take size text ≡ front ++ (d ∷ []) → take size (set text (size - 1) e) ≡ front ++ (e ∷ [])
+last-set text front zero d e h l p = absurd (never h)
+  where
+    never : 0 < 0 → ⊥
+    never q = omega arith
+last-set text front (suc k) d e h l p =
+    let whole : length (take (suc k) text) ≡ suc k = length-take-le (suc k) text l in
+    let size : length front ≡ k = omega (arith, length-append front (d ∷ []), ap length p) in
+    let before : take k text ≡ front = sym (take-take k (suc k) text (omega arith)) ∙ ap (take k) p ∙ take-at front (d ∷ []) k size in
+    rw (sub-one (suc k)) (take-suc-set text k e (omega arith) ∙ ap (λ (l : List ℕ). l ++ (e ∷ [])) before)
+
+pub counts-up : (text : List ℕ) (size number : ℕ) → 0 < size → size ≤ mostDigits → (number % 10 ≡ 0 → ⊥)
+    → CountsUp text size number (set text (size - 1) (digitZero + number % 10)) size
+counts-up text size number h l z shown s low high =
+    let e : shown / 10 ≡ number / 10 = omega arith in
+    let t = ten mostDigits shown number (omega arith) e in
+    record {
+      whole = length-set text (size - 1) (digitZero + number % 10) ∙ s .whole;
+      front = last-set text (t .tens) size (digitZero + shown % 10) (digitZero + number % 10) h (omega (arith, s .whole)) (s .front ∙ t .one) ∙ sym (t .other);
+      ends =
+          s .ends
+          ∙ ap length (t .one)
+          ∙ length-append (t .tens) ((digitZero + shown % 10) ∷ [])
+          ∙ sym (length-append (t .tens) ((digitZero + number % 10) ∷ []))
+          ∙ sym (ap length (t .other));
+    }
+
+module _ {text : List ℕ} {size number : ℕ} (shown : Shows text size number) where
+  pub shows-some : 0 < size
+  shows-some = omega (arith, shown .ends, digits-some mostDigits number (omega arith))
+
+  pub shows-most : size ≤ mostDigits
+  shows-most = omega (arith, shown .ends, digits-length mostDigits number)
+
+  -- the line of the number that is shown
+  pub shows-line : (v : Verdict) → numbered (take size text) v ≡ outputLine number v
+  unfolding outputLine
+  shows-line v = rw (shown .front)

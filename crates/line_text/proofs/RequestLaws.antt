@@ -16,6 +16,7 @@ use Rattle.line_text.specs.declared.Request
 use Rattle.line_text.specs.declared.Request.{Request}
 use Rattle.line_text.specs.Bytes.{digitZero, ascii, sameBytes, before, onFirst, split, wordsOf, space}
 use Rattle.line_text.specs.Requests.{numberFrom, zeroAlone, operandOf, withNone, withOne, withTwo, ifOne, ifBoth, byWords, requestOf, mostBytes}
+use Rattle.line_text.proofs.ByteLaws.{same-equal}
 use Rattle.line_text.proofs.WordLaws.{split-all, split-at}
 
 abbrev is : List ℕ → String → Type 0
@@ -23,14 +24,6 @@ is k word = sameBytes k (ascii word) ≡ true
 
 abbrev isnt : List ℕ → String → Type 0
 isnt k word = sameBytes k (ascii word) ≡ false
-
-pub none-step : (k : List ℕ) → is k "step" → Request.Step ≡ withNone k
-unfolding withNone
-none-step k h = rw h
-
-pub none-bad : (k : List ℕ) → isnt k "step" → Request.Bad ≡ withNone k
-unfolding withNone
-none-bad k h = rw h
 
 module _ (k : List ℕ) (x : ℕ) where
   pub one-fresh : is k "fresh" → Request.Fresh x ≡ withOne k x
@@ -147,9 +140,14 @@ pub both-words : (k u s : List ℕ) (n : ℕ) (a b : Operand) → a ≡ operandO
 unfolding byWords
 both-words k u s n a b ea eb e h = rw (words-one s n e h, ea, eb)
 
-pub alone : (s : List ℕ) (n : ℕ) → n ≡ before space s → n ≡ length s → length s ≤ mostBytes → withNone s ≡ requestOf s
-unfolding byWords
-alone s n e h l = rw (← line-short s l, words-one s n e h)
+-- the one call that is a word alone
+pub alone-step : (s : List ℕ) → is s "step" → Request.Step ≡ requestOf s
+unfolding split sameBytes withNone byWords requestOf
+alone-step s h = rw (same-equal s (ascii "step") h)
+
+pub alone-bad : (s : List ℕ) (n : ℕ) → n ≡ before space s → n ≡ length s → length s ≤ mostBytes → isnt s "step" → Request.Bad ≡ requestOf s
+unfolding withNone byWords
+alone-bad s n e h l other = rw (← line-short s l, words-one s n e h, other)
 
 -- what a part from a place to the end holds
 pub last-part : (s : List ℕ) (n : ℕ) → take (length s - n) (drop n s) ≡ drop n s

@@ -6,7 +6,7 @@ use crate::bytes::same;
 ghost use mathlib.Core.Path.{_≡_};
 ghost use mathlib.Core.List.{_∷_};
 ghost use Rattle.line_text.specs.Bytes.{wordsOf};
-ghost use Rattle.line_text.specs.Requests.{numberFrom, operandOf, withNone, withOne, withTwo, ifOne, ifBoth, byWords, requestOf};
+ghost use Rattle.line_text.specs.Requests.{numberFrom, operandOf, withOne, withTwo, ifOne, ifBoth, byWords, requestOf};
 
 // The most bytes of a line, its line feed not counted.
 pub const MOST_BYTES: usize = 80;
@@ -53,15 +53,6 @@ fn operand(s: &[u8]) -> Operand
         return Operand::Nothing;
     }
     number(s)
-}
-
-fn with_none(word: &[u8]) -> Request
-    ensures { λ r. ⌜ r ≡ withNone (now (word .entry)) ⌝ }
-{
-    if same(word, b"step") {
-        return Request::Step;
-    }
-    Request::Bad
 }
 
 fn with_one(word: &[u8], x: u16) -> Request
@@ -144,15 +135,19 @@ fn operands(word: &[u8], rest: &[u8]) -> Request
     second_operand(word, &rest[..end], &rest[next..])
 }
 
+// The one call without an operand is told before a space is looked for.
 pub fn parse(line: &[u8]) -> Request
     ensures { λ r. ⌜ r ≡ requestOf (now (line .entry)) ⌝ }
 {
     if MOST_BYTES < line.len() {
         return Request::Bad;
     }
+    if same(line, b"step") {
+        return Request::Step;
+    }
     let end = find(line, b' ');
     if end == line.len() {
-        return with_none(line);
+        return Request::Bad;
     }
     let next = end + 1;
     operands(&line[..end], &line[next..])

@@ -3,12 +3,12 @@ use crate::Verdict;
 ghost use mathlib.Core.Path.{_≡_};
 ghost use mathlib.Core.List.{_++_};
 ghost use Prim.Native.Nat.{_+_, _^_, _≤_, _<_};
-ghost use lib.ListN.{length};
-ghost use Rattle.line_text.specs.Texts.{digits, mostDigits, decimal, wordLength, verdictRoom, verdictText, room, outputLine};
-ghost use Rattle.line_text.specs.Put.{Put};
+ghost use lib.ListN.{length, take};
+ghost use Rattle.line_text.specs.Texts.{digits, mostDigits, decimal, wordLength, verdictRoom, verdictText, room};
+ghost use Rattle.line_text.specs.Put.{Put, Shows, numbered, CountsUp};
 
 // No number here has more digits.
-const MOST_DIGITS: usize = 20;
+pub const MOST_DIGITS: usize = 20;
 
 // OK or NO and a space, before a number.
 const WORD_LENGTH: usize = 3;
@@ -67,19 +67,59 @@ fn put_verdict(out: &mut [u8], at: usize, verdict: Verdict) -> usize
     }
 }
 
-pub fn put_line(out: &mut [u8], at: usize, number: u64, verdict: Verdict) -> usize
-    requires { ⌜ at + room ≤ length (now out) ⌝ }
-    ensures { λ r. ⌜ Put (now (out .entry)) at (outputLine number verdict) (now (out .exit)) r ⌝ }
+// A text's first bytes. All of it is copied, which takes no test; what is past them is written over.
+fn put_number(out: &mut [u8], at: usize, text: &[u8; MOST_DIGITS], size: usize) -> usize
+    requires { ⌜ (at + mostDigits ≤ length (now out)) × (length (now text) ≡ mostDigits) × (size ≤ mostDigits) ⌝ }
+    ensures { λ r. ⌜ Put (now (out .entry)) at (take size (now (text .entry))) (now (out .exit)) r ⌝ }
 {
-    let numbered = put_digits(out, at, MOST_DIGITS, number);
-    let spaced = put_word(out, numbered, b" ");
+    let mut i = 0;
+    while i < MOST_DIGITS {
+        out[at + i] = text[i];
+        i += 1;
+    }
+    at + size
+}
+
+// An output line whose number is the text's first bytes.
+pub fn put_numbered(
+    out: &mut [u8],
+    at: usize,
+    text: &[u8; MOST_DIGITS],
+    size: usize,
+    verdict: Verdict,
+) -> usize
+    requires { ⌜ (at + room ≤ length (now out)) × (length (now text) ≡ mostDigits) × (size ≤ mostDigits) ⌝ }
+    ensures { λ r. ⌜ Put (now (out .entry)) at (numbered (take size (now (text .entry))) verdict) (now (out .exit)) r ⌝ }
+{
+    let shown = put_number(out, at, text, size);
+    let spaced = put_word(out, shown, b" ");
     let told = put_verdict(out, spaced, verdict);
     put_word(out, told, b"\n")
 }
 
+// A number's digits, from the text's first byte on.
+pub fn number_text(text: &mut [u8; MOST_DIGITS], number: u64) -> usize
+    ensures { λ r. ⌜ Shows (now (text .exit)) r number ⌝ }
+{
+    put_digits(text, 0, MOST_DIGITS, number)
+}
+
+// Within a ten only the last digit is another.
+pub fn count_up(text: &mut [u8; MOST_DIGITS], size: usize, number: u64) -> usize
+    requires { ⌜ (0 < size) × (size ≤ mostDigits) ⌝ }
+    ensures { λ r. ⌜ CountsUp (now (text .entry)) size number (now (text .exit)) r ⌝ }
+{
+    let last = number % 10;
+    if last == 0 {
+        return number_text(text, number);
+    }
+    text[size - 1] = b'0' + (last as u8);
+    size
+}
+
 // No input has so many lines that the number stops.
 pub fn next_number(lines: u64) -> u64
-    ensures { λ r. ⌜ (r ≤ lines + 1) × (lines + 1 < 2 ^ 64 → r ≡ lines + 1) ⌝ }
+    ensures { λ r. ⌜ (lines ≤ r) × (r ≤ lines + 1) × (lines + 1 < 2 ^ 64 → r ≡ lines + 1) ⌝ }
 {
     if lines < u64::MAX {
         return lines + 1;

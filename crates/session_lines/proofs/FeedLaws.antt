@@ -1,45 +1,79 @@
--- Turns one after the other, and the end of the input.
+-- Lines one after the other, and the end of the input.
 use mathlib.Core.Path.{_≡_, refl, sym, ap, _∙_}
 use mathlib.Core.List.{List, [], _∷_, _++_}
 use Prim.Native.Nat.{ℕ, zero, suc, _+_, _-_, _^_, _≤_, _<_, min}
 use native.Mathlib.Omega.{arith}
-use lib.ListN.{length, take, drop, length-drop}
-use lib.Seq.{take-add}
+use lib.ListN.{length, take, drop, length-drop, take-append-drop}
+use lib.Seq.{take-add, take-length}
+use Rattle.machine.specs.declared.Queue.{Queue}
 use Rattle.machine.specs.Calls.{Store, store}
-use Rattle.session_lines.specs.declared.Session.{Session}
-use Rattle.line_text.specs.Bytes.{split, linesOf}
-use Rattle.line_text.specs.Kept.{keptBytes}
-use Rattle.line_text.specs.Texts.{room}
-use Rattle.session_lines.specs.Listing.{listed}
-use Rattle.session_lines.specs.Progress.{lastLine, onto, begunLine, ahead, TellsLine, Lines, Tells, Turns, Finishes}
-use Rattle.line_text.proofs.RequestLaws.{last-part, last-part-length}
-use Rattle.line_text.proofs.WordLaws.{append-none}
+use Rattle.line_text.specs.declared.Request.{Request}
+use Rattle.line_text.specs.declared.Verdict.{Verdict}
+use Rattle.line_text.specs.Bytes.{lineFeed, before, split, linesOf}
+use Rattle.line_text.specs.Requests.{requestOf}
+use Rattle.line_text.specs.Kept.{keptBytes, Keeps}
+use Rattle.line_text.specs.Texts.{room, outputLine}
+use Rattle.line_text.specs.Put.{Put, Shows, numbered}
+use Rattle.line_text.proofs.PutLaws.{output-length, shows-line}
+use Rattle.line_text.proofs.RequestLaws.{last-part}
+use Rattle.line_text.proofs.WordLaws.{append-none, before-most}
 use Rattle.line_text.proofs.KeepLaws.{take-cap}
-use Rattle.session_lines.proofs.TurnLaws.{tells-both}
+use Rattle.session_lines.specs.declared.Session.{Session}
+use Rattle.session_lines.specs.Listing.{listed}
+use Rattle.session_lines.specs.Serving.{Good, Serves}
+use Rattle.session_lines.specs.Progress.{lastLine, onto, sessionOf, begunLine, ahead, Tells, FeedsLines, Finishes}
+use Rattle.session_lines.proofs.TellsLaws.{line-tells, joined-tells, ended-tells, tells-both}
 
--- How far the turns have come: the sizes stand, and what was taken gave what was written.
-pub record Going (table₀ scratch₀ input out₀ : List ℕ) (s₀ : Session) (table scratch out : List ℕ) (s : Session) (taken written : ℕ) : Type 0 where
+-- How far the lines have come: the sizes stand, the number is shown, and what was taken gave what was written.
+pub record Going (table₀ scratch₀ input out₀ line : List ℕ) (s₀ : Session) (table scratch out : List ℕ) (held lines : ℕ) (queue : Queue)
+    (number : List ℕ) (size taken written feed : ℕ) : Type 0 where
   pub most : taken ≤ length input
   pub within : written ≤ length out
   pub nothing : taken ≡ 0 → written ≡ 0
+  pub none : 0 < taken → held ≡ 0
+  pub found : feed ≡ taken + before lineFeed (drop taken input)
+  pub shown : Shows number size lines
   pub tableSize : length table ≡ length table₀
   pub scratchSize : length scratch ≡ length scratch₀
   pub outSize : length out ≡ length out₀
-  pub tells : Tells s₀ table₀ scratch₀ (take taken input) (take written out) s table scratch
+  pub tells : Tells s₀ table₀ scratch₀ (take taken input) (take written out) (sessionOf line held lines queue) table scratch
 
--- a turn on the rest of the input
-module _ (input : List ℕ) (taken : ℕ) {out : List ℕ} {s₁ : Session} {t₁ scratch₁ : List ℕ} {written : ℕ}
-    {s₂ : Session} {more end : ℕ} {t₂ scratch₂ new : List ℕ}
-    (turned : Turns s₁ t₁ scratch₁ (take (length input - taken) (drop taken input)) out written s₂ more end t₂ scratch₂ new) where
-  pub more-most : taken < length input → taken + more ≤ length input
-  more-most h = omega (arith, turned .most, last-part-length input taken)
+module _ (input : List ℕ) (taken : ℕ) {feed : ℕ} (found : feed ≡ taken + before lineFeed (drop taken input))
+    {s₀ s : Session} {t₀ scratch₀ t scratch : List ℕ} (out : List ℕ) (written : ℕ)
+    (told : Tells s₀ t₀ scratch₀ (take taken input) (take written out) s t scratch) where
+  -- the next line served
+  pub next-tells : {request : Request} {v : Verdict} {lines : ℕ} {t′ : List ℕ} {queue : Queue} {scratch′ number : List ℕ} {size end : ℕ} {new line : List ℕ}
+      → feed < length input
+      → request ≡ requestOf (begunLine s ++ take (feed - taken) (drop taken input))
+      → (Good t (s .queue) → Serves (store t (s .queue) scratch) request v (store t′ queue scratch′))
+      → (s .lines ≤ lines) × (lines ≤ s .lines + 1) × (s .lines + 1 < 2 ^ 64 → lines ≡ s .lines + 1)
+      → Shows number size lines
+      → Put out written (numbered (take size number) v) new end
+      → Tells s₀ t₀ scratch₀ (take (feed + 1) input) (take end new) (sessionOf line 0 lines queue) t′ scratch′
+  next-tells {v = v} {lines = lines} {end = end} {new = new} inside er es en shown put =
+      let rest = drop taken input in
+      let size : length rest ≡ length input - taken = length-drop taken input in
+      let first : feed - taken ≡ before lineFeed rest = omega arith in
+      let past : taken + (before lineFeed rest + 1) ≡ feed + 1 = omega arith in
+      let output : take end new ≡ take written out ++ outputLine lines v = put .front ∙ ap (λ (l : List ℕ). take written out ++ l) (shows-line shown v) in
+      rw (← past, take-add taken (before lineFeed rest + 1) input, output)
+      (tells-both told (ended-tells s rest (omega arith) (line-tells (rw first at er) es en)))
 
-  pub more-some : taken < length input → 0 < more
-  more-some h = turned .some (omega (arith, last-part-length input taken))
+  -- what is left begins a line
+  pub rest-tells : {new : List ℕ} {held : ℕ} → length input ≤ feed → taken ≤ length input → length (s .line) ≡ keptBytes
+      → Keeps (s .line) (s .held) (take (length input - taken) (drop taken input)) new held
+      → Tells s₀ t₀ scratch₀ (take (length input) input) (take written out) (sessionOf new held (s .lines) (s .queue)) t scratch
+  rest-tells past most size kept =
+      let rest = drop taken input in
+      let left : length rest ≡ length input - taken = length-drop taken input in
+      let all : before lineFeed rest ≡ length rest = omega (arith, before-most lineFeed rest) in
+      rw (take-length input, ← take-append-drop taken input, ← append-none (take written out))
+      (tells-both told (joined-tells s rest all size (rw (last-part input taken) at kept)))
 
-  pub more-tells : {s : Session} {t scratch : List ℕ} → Tells s t scratch (take taken input) (take written out) s₁ t₁ scratch₁
-      → Tells s t scratch (take (taken + more) input) (take end new) s₂ t₂ scratch₂
-  more-tells a = rw (turned .put .front, take-add taken more input) (tells-both a (rw (last-part input taken) at (turned .tells)))
+-- an output line ends within its room
+pub next-within : {out new number : List ℕ} {written end size lines : ℕ} (v : Verdict) → written + room ≤ length out → length new ≡ length out
+    → Shows number size lines → Put out written (numbered (take size number) v) new end → end ≤ length new
+next-within {lines = lines} v h l shown put = omega (arith, put .ends, ap length (shows-line shown v), output-length lines v)
 
 -- with room for a line something is taken
 pub some-taken : (taken written size : ℕ) → (taken ≡ 0 → written ≡ 0) → size - written < room → room ≤ size → 0 < taken
@@ -48,6 +82,54 @@ some-taken zero written size h l r = let w : written ≡ 0 = h refl in absurd (n
     never : written ≡ 0 → size - written < room → room ≤ size → ⊥
     never w l r = omega arith
 some-taken (suc taken) written size h l r = omega arith
+
+-- an input of a line feed alone is taken
+one-taken : (input : List ℕ) (taken feed : ℕ) → input ≡ lineFeed ∷ [] → feed ≡ taken + before lineFeed (drop taken input) → length input ≤ feed
+    → taken ≤ length input → taken ≡ 1
+unfolding before
+one-taken input zero feed e found past most = absurd (never (found ∙ rw e) (rw e at past))
+  where
+    never : feed ≡ 0 + 0 → 1 ≤ feed → ⊥
+    never p q = omega arith
+one-taken input (suc zero) feed e found past most = refl
+one-taken input (suc (suc n)) feed e found past most = absurd (never (rw e at most))
+  where
+    never : suc (suc n) ≤ 1 → ⊥
+    never p = omega arith
+
+module _ {table₀ scratch₀ input out₀ line : List ℕ} {s₀ : Session} {table scratch out : List ℕ} {held lines : ℕ} {queue : Queue}
+    {number : List ℕ} {size taken written feed : ℕ}
+    (going : Going table₀ scratch₀ input out₀ line s₀ table scratch out held lines queue number size taken written feed) where
+  -- no room for a line
+  pub stopped : length out - written < room → FeedsLines s₀ table₀ scratch₀ input (sessionOf line held lines queue) taken written table scratch out
+  stopped low = record {
+    feeds = record {
+      most = going .most;
+      within = going .within;
+      some = λ h r. some-taken taken written (length out) (going .nothing) low r;
+      all = λ h. omega arith;
+      tells = going .tells;
+    };
+    closed = λ e r. rw (going .none (some-taken taken written (length out) (going .nothing) low r));
+  }
+
+  -- no line feed
+  pub ended : {new : List ℕ} {held′ : ℕ} → length input ≤ feed → length line ≡ keptBytes
+      → Keeps line held (take (length input - taken) (drop taken input)) new held′
+      → FeedsLines s₀ table₀ scratch₀ input (sessionOf new held′ lines queue) (length input) written table scratch out
+  ended past whole kept = record {
+    feeds = record {
+      most = omega arith;
+      within = going .within;
+      some = λ h r. h;
+      all = λ h. refl;
+      tells = rest-tells input taken (going .found) out written (going .tells) past (going .most) whole kept;
+    };
+    closed = λ e r.
+        let one : taken ≡ 1 = one-taken input taken feed e (going .found) past (going .most) in
+        let zero-held : held ≡ 0 = going .none (omega arith) in
+        kept .front whole ∙ rw (e, one, zero-held);
+  }
 
 last-line : (k : ℕ) (l : List ℕ) → (k ≡ 0 → ⊥) → (length l ≡ 0 → ⊥) → lastLine (take k l) ≡ take k l ∷ []
 last-line zero l h m = absurd (h refl)
@@ -68,16 +150,24 @@ module _ (s : Session) {held : ℕ} (size : length (s .line) ≡ keptBytes) (cap
     listing = λ g l. ap (λ (x : List ℕ). listed (s .lines) (store t (s .queue) scratch) (lastLine x)) (begun ∙ ap (λ (k : ℕ). take k (s .line)) e);
   }
 
-  -- the line is served
-  pub finish-line : {t scratch out : List ℕ} {lines′ : ℕ} {s′ : Store} {end : ℕ} {new : List ℕ} → (held ≡ 0 → ⊥)
-      → Lines (take held (s .line)) (s .lines) (store t (s .queue) scratch) out 0 lines′ s′ end new → Finishes s t scratch end new
+  -- the line feed that is missing
+  pub finish-line : {t scratch : List ℕ} {s′ : Session} {taken written : ℕ} {t′ scratch′ out : List ℕ} → (held ≡ 0 → ⊥) → room ≤ length out
+      → FeedsLines s t scratch (lineFeed ∷ []) s′ taken written t′ scratch′ out → Finishes s t scratch written out
   unfolding ahead split listed
-  finish-line {t} {scratch} e told = record {
-    within = told .within;
+  finish-line {t} {scratch} {s′} {taken} {written} {t′} {scratch′} {out} e r told = record {
+    within = told .feeds .within;
     listing = λ g l.
-        ap (λ (x : List ℕ). listed (s .lines) (store t (s .queue) scratch) (lastLine x)) begun
-        ∙ ap (listed (s .lines) (store t (s .queue) scratch)) (last-line held (s .line) e (λ z. omega arith))
-        ∙ told .tells .listing g l []
-        ∙ append-none (told .text)
-        ∙ sym (told .put .front);
+        let f = told .feeds in
+        let st = store t (s .queue) scratch in
+        let one : 0 < taken = f .some (omega arith) r in
+        let taken1 : taken ≡ 1 = omega (arith, f .most) in
+        let whole : take taken (lineFeed ∷ []) ≡ lineFeed ∷ [] = rw taken1 in
+        let begunOne : lastLine (begunLine s) ≡ (begunLine s ++ []) ∷ [] =
+        rw begun (last-line held (s .line) e (λ z. omega arith)) ∙ ap (λ (x : List ℕ). x ∷ []) (sym (append-none (begunLine s))) in
+        let closed : ahead s′ t′ scratch′ [] ≡ [] = ap (λ (x : List ℕ). listed (s′ .lines) (store t′ (s′ .queue) scratch′) (lastLine x)) (told .closed refl r) in
+        ap (listed (s .lines) st) begunOne
+        ∙ ap (λ (x : List ℕ). ahead s t scratch (x ++ [])) (sym whole)
+        ∙ f .tells .listing g (omega (arith, ap length whole)) []
+        ∙ ap (λ (x : List ℕ). take written out ++ x) closed
+        ∙ append-none (take written out);
   }

@@ -1,6 +1,6 @@
 pub mod Known
 pub mod ServeLaws
 pub mod LineLaws
-pub mod TurnLaws
+pub mod TellsLaws
 pub mod FeedLaws
 pub mod Theorem

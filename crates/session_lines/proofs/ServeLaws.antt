@@ -4,6 +4,7 @@ use mathlib.Core.Logic.{_⊎_, inl, inr, ⊎-elim}
 use mathlib.Core.Bool.{false}
 use mathlib.Core.List.{List, []}
 use Prim.Native.Nat.{ℕ, zero, suc}
+use lib.ListN.{length}
 use Rattle.machine.specs.declared.Queue.{Queue}
 use Rattle.machine.specs.Table.{capacity}
 use Rattle.machine.specs.Calls.{Call, fresh, row, step, audit, RowCall, Reply, refused, Store, store}
@@ -146,3 +147,23 @@ module _ {t : List ℕ} {q : Queue} {scratch t′ : List ℕ} {q′ q″ : Queue
 
 pub bad-serves : {t : List ℕ} {q : Queue} {scratch : List ℕ} → Good t q → Serves (store t q scratch) Request.Bad Verdict.Bad (store t q scratch)
 bad-serves g = record { verdict = refl; after = refl; good = g }
+
+-- a request answered: the lengths of the lent slices stand
+pub record Answers (t : List ℕ) (queue : Queue) (scratch : List ℕ) (request : Request) (v : Verdict) (t′ : List ℕ) (queue′ : Queue) (scratch′ : List ℕ) : Type 0 where
+  pub serves : Good t queue → Serves (store t queue scratch) request v (store t′ queue′ scratch′)
+  pub tableSize : length t′ ≡ length t
+  pub scratchSize : length scratch′ ≡ length scratch
+
+-- a line that asks for nothing leaves all as it is
+pub bad-answers : {t : List ℕ} {queue : Queue} {scratch : List ℕ} {request : Request} → request ≡ Request.Bad
+    → Answers t queue scratch request Verdict.Bad t queue scratch
+bad-answers e = record { serves = λ g. rw e (bad-serves g); tableSize = refl; scratchSize = refl }
+
+pub call-answers : {t : List ℕ} {queue : Queue} {scratch : List ℕ} {request : Request} {v : Verdict} {t′ : List ℕ} {queue′ : Queue} {scratch′ : List ℕ}
+    → (Good t queue → Serves (store t queue scratch) request v (store t′ queue′ scratch′)) → length t′ ≡ length t → length scratch′ ≡ length scratch
+    → Answers t queue scratch request v t′ queue′ scratch′
+call-answers serves t scratch = record { serves = serves; tableSize = t; scratchSize = scratch }
+
+pub answers-same : {t : List ℕ} {queue : Queue} {scratch : List ℕ} {request : Request} {v w : Verdict} {t′ u : List ℕ} {queue′ q : Queue} {scratch′ z : List ℕ}
+    → t′ ≡ u → scratch′ ≡ z → queue′ ≡ q → v ≡ w → Answers t queue scratch request w u q z → Answers t queue scratch request v t′ queue′ scratch′
+answers-same et es eq ev a = rw (et, es, eq, ev) a

@@ -14,7 +14,7 @@ use Rattle.session_lines.specs.Progress.{ahead, Tells, Feeds, Finishes}
 use Rattle.session_lines.specs.Whole.{State, Part, Fed, lastState, inputs, outputs, begin, Whole}
 use Rattle.line_text.proofs.WordLaws.{append-none}
 use Rattle.session_lines.proofs.LineLaws.{onto-none}
-use Rattle.session_lines.proofs.TurnLaws.{tells-both, tells-none}
+use Rattle.session_lines.proofs.TellsLaws.{tells-both, tells-none}
 
 all-tells : (s : State) (ps : List Part) → Fed s ps
     → Tells (s .session) (s .table) (s .scratch) (inputs ps) (outputs ps) (lastState s ps .session) (lastState s ps .table) (lastState s ps .scratch)

@@ -6,10 +6,9 @@ use lib.ListN.{length, take, replicate}
 use Rattle.machine.specs.declared.Queue.{Queue}
 use Rattle.machine.specs.Queue.{emptyQueue}
 use Rattle.machine.specs.Calls.{Store, store}
-use Rattle.line_text.specs.Bytes.{linesOf}
+use Rattle.line_text.specs.Bytes.{lineFeed, linesOf}
 use Rattle.line_text.specs.Kept.{keptBytes}
 use Rattle.line_text.specs.Texts.{room}
-use Rattle.line_text.specs.Put.{Put}
 use Rattle.session_lines.specs.declared.Session.{Session}
 use Rattle.session_lines.specs.Listing.{listed}
 use Rattle.session_lines.specs.Serving.{Good}
@@ -28,6 +27,10 @@ onto begun (l ∷ ls) = (begun ++ l) ∷ ls
 abbrev pub started : Session
 started = record { line = replicate keptBytes 0; held = 0; lines = 0; queue = emptyQueue }
 
+-- a session is told by its four parts
+abbrev pub sessionOf : List ℕ → ℕ → ℕ → Queue → Session
+sessionOf line held lines queue = record { line = line; held = held; lines = lines; queue = queue }
+
 abbrev pub begunLine : Session → List ℕ
 begunLine s = take (s .held) (s .line)
 
@@ -41,27 +44,11 @@ pub record TellsLine (line : List ℕ) (lines : ℕ) (s : Store) (text : List �
   pub counted : lines′ ≤ lines + 1
   pub listing : Good (s .table) (s .queue) → lines + 1 < 2 ^ 64 → (rest : List (List ℕ)) → listed lines s (line ∷ rest) ≡ text ++ listed lines′ s′ rest
 
--- The text is put into the buffer.
-pub record Lines (line : List ℕ) (lines : ℕ) (s : Store) (out : List ℕ) (at : ℕ) (lines′ : ℕ) (s′ : Store) (end : ℕ) (new : List ℕ) : Type 0 where
-  pub within : end ≤ length new
-  pub text : List ℕ
-  pub put : Put out at text new end
-  pub tells : TellsLine line lines s text lines′ s′
-
 -- With the store t and scratch, the input x takes the session s to s′ and gives the output y.
 pub record Tells (s : Session) (t scratch x y : List ℕ) (s′ : Session) (t′ scratch′ : List ℕ) : Type 0 where
   pub good : Good t (s .queue) → Good t′ (s′ .queue)
   pub counted : s′ .lines ≤ s .lines + length x
   pub listing : Good t (s .queue) → s .lines + length x < 2 ^ 64 → (rest : List ℕ) → ahead s t scratch (x ++ rest) ≡ y ++ ahead s′ t′ scratch′ rest
-
--- One turn: the input up to its first line feed, or all of it.
-pub record Turns (s : Session) (t scratch input out : List ℕ) (at : ℕ) (s′ : Session) (taken end : ℕ) (t′ scratch′ new : List ℕ) : Type 0 where
-  pub some : 0 < length input → 0 < taken
-  pub most : taken ≤ length input
-  pub within : end ≤ length new
-  pub text : List ℕ
-  pub put : Put out at text new end
-  pub tells : Tells s t scratch (take taken input) text s′ t′ scratch′
 
 -- Of an input some is taken, and all of it if the buffer has room; the buffer's front is the output for what was taken.
 pub record Feeds (s : Session) (t scratch input : List ℕ) (s′ : Session) (taken written : ℕ) (t′ scratch′ out : List ℕ) : Type 0 where
@@ -70,6 +57,11 @@ pub record Feeds (s : Session) (t scratch input : List ℕ) (s′ : Session) (ta
   pub some : 0 < length input → room ≤ length out → 0 < taken
   pub all : written + room ≤ length out → taken ≡ length input
   pub tells : Tells s t scratch (take taken input) (take written out) s′ t′ scratch′
+
+-- Besides, a line feed alone ends the line that has begun.
+pub record FeedsLines (s : Session) (t scratch input : List ℕ) (s′ : Session) (taken written : ℕ) (t′ scratch′ out : List ℕ) : Type 0 where
+  pub feeds : Feeds s t scratch input s′ taken written t′ scratch′ out
+  pub closed : input ≡ lineFeed ∷ [] → room ≤ length out → begunLine s′ ≡ []
 
 -- At the end of the input the buffer's front is all that was ahead.
 pub record Finishes (s : Session) (t scratch : List ℕ) (written : ℕ) (out : List ℕ) : Type 0 where

@@ -1,15 +1,12 @@
 // The session's lines: bytes in, bytes out. The definition of what comes out is specs/Listing.antt.
-mod line;
+mod lines;
 mod serve;
-mod turn;
 
-use line::serve_line;
 use line_text::Verdict;
 use line_text::kept::KEPT_BYTES;
 use line_text::kept::capped;
-use line_text::texts::ROOM;
+use lines::serve_lines;
 use machine::Queue;
-use turn::turn;
 ghost use mathlib.Core.Path.{_≡_};
 ghost use Prim.Native.Nat.{_≤_};
 ghost use lib.ListN.{length};
@@ -43,20 +40,6 @@ impl Session {
     }
 }
 
-// After a whole line: the lines so far, the queue, and the place past the output.
-pub struct Lined {
-    pub lines: u64,
-    pub queue: Queue,
-    pub end: usize,
-}
-
-// After a turn: the session, how much of the input was taken, and the place past the output.
-pub struct Turned {
-    pub session: Session,
-    pub taken: usize,
-    pub end: usize,
-}
-
 // After a part of the input: the session, how much was taken, and how much was written.
 pub struct Fed {
     pub session: Session,
@@ -75,28 +58,7 @@ pub fn feed(
     ensures { λ r. ⌜ Feeds session (now (table .entry)) (now (scratch .entry)) (now (input .entry))
         (r .session) (r .taken) (r .written) (now (table .exit)) (now (scratch .exit)) (now (out .exit)) ⌝ }
 {
-    let mut present = session;
-    let mut taken = 0;
-    let mut written = 0;
-    while taken < input.len() {
-        if out.len() - written < ROOM {
-            return Fed {
-                session: present,
-                taken: taken,
-                written: written,
-            };
-        }
-        let turned = turn(present, table, scratch, &input[taken..], out, written);
-        let next = turned.session;
-        present = next;
-        taken += turned.taken;
-        written = turned.end;
-    }
-    Fed {
-        session: present,
-        taken: taken,
-        written: written,
-    }
+    serve_lines(session, table, scratch, input, out)
 }
 
 // At the end of the input a last line without its line feed is served. The answer is how much was written.
@@ -108,8 +70,6 @@ pub fn finish(session: Session, table: &mut [u16], scratch: &mut [u16], out: &mu
     if held == 0 {
         return 0;
     }
-    let line = session.line;
-    let queue = session.queue;
-    let lined = serve_line(&line[..held], session.lines, queue, table, scratch, out, 0);
-    lined.end
+    let fed = serve_lines(session, table, scratch, b"\n", out);
+    fed.written
 }

@@ -1,6 +1,5 @@
-use mathlib.Core.Path.{_≡_, sym}
+use mathlib.Core.Path.{_≡_}
 use native.Mathlib.Omega.{arith}
-use lib.Seq.{length-take-le}
 use lib.ListN.{length}
 use borrow.Author.Needs.{needs}
 use Rattle.line_text.specs.Kept.{keptBytes}
@@ -21,20 +20,11 @@ returns c =
     let start = at-capped .before .before .before .before in
     finish-none (start .args .session) (line-length start) (at-capped .capped .ensures) (c .if1 .taken)
 
-array-share-prefix-line : tie.Need-array-share-prefix-line
-array-share-prefix-line c =
-    let at-capped = c .before .before .before in
-    let start = at-capped .before .before .before .before in
-    omega (arith, line-length start, at-capped .capped .ensures)
+slice-aggregate-serve-lines : tie.Need-slice-aggregate-serve-lines
+slice-aggregate-serve-lines c = search needs
 
-slice-aggregate-serve-line : tie.Need-slice-aggregate-serve-line
-slice-aggregate-serve-line c =
-    let at-capped = c .before .before .before .before in
-    let start = at-capped .before .before .before .before in
-    sym (length-take-le _ _ (omega (arith, line-length start, at-capped .capped .ensures)))
-
-serve-line-requires : tie.Need-serve-line-requires
-serve-line-requires c κs = search needs
+serve-lines-requires : tie.Need-serve-lines-requires
+serve-lines-requires c κs = search needs
 
 same-length : tie.Need-same-length
 same-length c = search needs
@@ -47,11 +37,14 @@ same-length-3 c = search needs
 
 returns-2 : tie.Need-returns-2
 returns-2 c =
-    let at-serve-line = c .before .before .before .before .before .before in
-    let at-if1 = at-serve-line .before .before .before .before .before .before .before in
+    let at-serve-lines = c .before .before .before .before .before .before in
+    let at-if1 = at-serve-lines .before .before .before .before .before in
     let at-capped = at-if1 .before in
     let start = at-capped .before .before .before .before in
-    finish-line (start .args .session) (line-length start) (at-capped .capped .ensures) (at-if1 .if1 .left) (at-serve-line .serve-line .ensures)
+    let k = at-serve-lines .serve-lines in
+    finish-line (start .args .session) (line-length start) (at-capped .capped .ensures) (at-if1 .if1 .left)
+    (omega (arith, k .kept .1 .1 .1 .1 .0, start .pre))
+    (k .ensures)
 
 pub finish-spec : {M : Type 1} → statement M
 finish-spec =
@@ -59,9 +52,8 @@ finish-spec =
     (tie.spec
     capped-requires
     returns
-    array-share-prefix-line
-    slice-aggregate-serve-line
-    serve-line-requires
+    slice-aggregate-serve-lines
+    serve-lines-requires
     same-length
     same-length-2
     same-length-3

@@ -1,0 +1,101 @@
+// Lines served where they lie in the input.
+use crate::Fed;
+use crate::Session;
+use crate::serve::serve;
+use line_text::Request;
+use line_text::Verdict;
+use line_text::bytes::find;
+use line_text::kept::KEPT_BYTES;
+use line_text::kept::keep;
+use line_text::parse::parse;
+use line_text::texts::MOST_DIGITS;
+use line_text::texts::ROOM;
+use line_text::texts::count_up;
+use line_text::texts::next_number;
+use line_text::texts::number_text;
+use line_text::texts::put_numbered;
+use machine::Queue;
+ghost use mathlib.Core.Path.{_≡_};
+ghost use mathlib.Core.List.{_++_};
+ghost use lib.ListN.{length, take};
+ghost use Rattle.line_text.specs.Requests.{requestOf};
+ghost use Rattle.line_text.specs.Kept.{keptBytes};
+ghost use Rattle.session_lines.specs.Progress.{sessionOf, FeedsLines};
+
+// What a line asks for that has begun with the bytes held and ends with this part.
+fn request(line: &[u8; KEPT_BYTES], held: usize, part: &[u8]) -> Request
+    requires { ⌜ length (now line) ≡ keptBytes ⌝ }
+    ensures { λ r. ⌜ r ≡ requestOf (take held (now (line .entry)) ++ now (part .entry)) ⌝ }
+{
+    if held == 0 {
+        return parse(part);
+    }
+    let mut whole = *line;
+    let size = keep(&mut whole, held, part);
+    parse(&whole[..size])
+}
+
+fn fed(
+    line: [u8; KEPT_BYTES],
+    held: usize,
+    lines: u64,
+    queue: Queue,
+    taken: usize,
+    written: usize,
+) -> Fed
+    ensures { λ r. ⌜ (r .session ≡ sessionOf line held lines queue) × (r .taken ≡ taken) × (r .written ≡ written) ⌝ }
+{
+    Fed {
+        session: Session {
+            line: line,
+            held: held,
+            lines: lines,
+            queue: queue,
+        },
+        taken: taken,
+        written: written,
+    }
+}
+
+// Each whole line is parsed where it lies, and what follows the last line feed is held. The queue is large, so that it is handed to the store
+// from here and goes into no other function; a line that asks for nothing leaves it where it is.
+pub fn serve_lines(
+    session: Session,
+    table: &mut [u16],
+    scratch: &mut [u16],
+    input: &[u8],
+    out: &mut [u8],
+) -> Fed
+    ensures { λ r. ⌜ FeedsLines session (now (table .entry)) (now (scratch .entry)) (now (input .entry))
+        (r .session) (r .taken) (r .written) (now (table .exit)) (now (scratch .exit)) (now (out .exit)) ⌝ }
+{
+    let mut line = session.line;
+    let mut held = session.held;
+    let mut lines = session.lines;
+    let mut queue = session.queue;
+    let mut number = [0; MOST_DIGITS];
+    let mut size = number_text(&mut number, lines);
+    let mut taken = 0;
+    let mut written = 0;
+    let mut feed = find(input, b'\n');
+    while feed < input.len() {
+        if out.len() - written < ROOM {
+            return fed(line, held, lines, queue, taken, written);
+        }
+        let asked = request(&line, held, &input[taken..feed]);
+        held = 0;
+        lines = next_number(lines);
+        size = count_up(&mut number, size, lines);
+        let mut verdict = Verdict::Bad;
+        if let Request::Bad = asked {} else {
+            let answered = serve(asked, table, queue, scratch);
+            queue = answered.queue;
+            verdict = answered.verdict;
+        }
+        written = put_numbered(out, written, &number, size, verdict);
+        taken = feed + 1;
+        feed = taken + find(&input[taken..], b'\n');
+    }
+    held = keep(&mut line, held, &input[taken..]);
+    fed(line, held, lines, queue, input.len(), written)
+}
