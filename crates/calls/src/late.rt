@@ -26,7 +26,7 @@ pub fn read_late(table: &[u16], queue: Queue, x: u16, w: u16) -> Asked
 {
     let tx = tally_of(table, queue, x);
     let tw = tally_of(table, queue, w);
-    read_tests(queue, tx, tw, queue::matched(x, w, 1))
+    read_tests(queue.count, tx, tw, queue::matched(x, w, 1))
 }
 
 pub fn cons_late(table: &[u16], queue: Queue, x: u16, y: u16) -> Asked
@@ -36,7 +36,7 @@ pub fn cons_late(table: &[u16], queue: Queue, x: u16, y: u16) -> Asked
     let tx = tally_of(table, queue, x);
     let ty = tally_of(table, queue, y);
     let same = queue::matched(y, x, 1);
-    cons_tests(queue, tx, ty, same, cells::first_free(table))
+    cons_tests(queue.count, tx, ty, same, cells::first_free(table))
 }
 
 // Of a replace in x by y that detaches d, whichever the field.
@@ -47,19 +47,19 @@ pub fn replace_late(table: &[u16], queue: Queue, y: u16, d: u16, x: u16) -> Aske
     let ty = tally_of(table, queue, y);
     let tx = tally_of(table, queue, x);
     let same = queue::matched(x, y, 1);
-    replace_tests(queue, ty, tx, same, queue::matched(d, y, 1))
+    replace_tests(queue.count, ty, tx, same, queue::matched(d, y, 1))
 }
 
 pub fn up_late(table: &[u16], queue: Queue, x: u16, n: u16) -> Asked
     requires { ⌜ Shape (now table) queue × (isCell (capacity (now table)) x ≡ true) ⌝ }
     ensures { λ r. ⌜ askedNumber r ≡ firstNo (codeLate (now (table .entry)) queue (packet 4 x n 0)) ⌝ }
 {
-    up_tests(queue, tally_of(table, queue, x), n)
+    up_tests(queue.count, tally_of(table, queue, x), n)
 }
 
 pub fn down_late(table: &[u16], queue: Queue, x: u16, n: u16) -> Asked
     requires { ⌜ Shape (now table) queue × (isCell (capacity (now table)) x ≡ true) × (1 ≤ n) ⌝ }
     ensures { λ r. ⌜ askedNumber r ≡ firstNo (codeLate (now (table .entry)) queue (packet 5 x n 0)) ⌝ }
 {
-    down_tests(queue, tally_of(table, queue, x), n)
+    down_tests(queue.count, tally_of(table, queue, x), n)
 }

@@ -22,7 +22,7 @@ pub fn read_refusal(table: &[u16], queue: Queue, k: usize, x: u16) -> Asked
     requires { ⌜ k ≤ right ⌝ }
     ensures { λ r. ⌜ askedNumber r ≡ firstNo (codeQuestions (now (table .entry)) queue (readCall k x)) ⌝ }
 {
-    let early = cell_asked(table, queue, 1, x, 0);
+    let early = cell_asked(table, queue.place, queue.count, 1, x, 0);
     if let Asked::No(_) = early {
         return early;
     }
@@ -33,7 +33,7 @@ pub fn read_refusal(table: &[u16], queue: Queue, k: usize, x: u16) -> Asked
 pub fn cons_refusal(table: &[u16], queue: Queue, x: u16, y: u16) -> Asked
     ensures { λ r. ⌜ askedNumber r ≡ firstNo (codeQuestions (now (table .entry)) queue (cons x y)) ⌝ }
 {
-    let early = words_asked(table, queue, 1, x, y);
+    let early = words_asked(table, queue.place, queue.count, 1, x, y);
     if let Asked::No(_) = early {
         return early;
     }
@@ -45,7 +45,7 @@ pub fn replace_refusal(table: &[u16], queue: Queue, k: usize, x: u16, y: u16) ->
     requires { ⌜ k ≤ right ⌝ }
     ensures { λ r. ⌜ askedNumber r ≡ firstNo (codeQuestions (now (table .entry)) queue (replaceCall k x y)) ⌝ }
 {
-    let early = cell_asked(table, queue, 1, x, y);
+    let early = cell_asked(table, queue.place, queue.count, 1, x, y);
     if let Asked::No(_) = early {
         return early;
     }
@@ -56,7 +56,7 @@ pub fn replace_refusal(table: &[u16], queue: Queue, k: usize, x: u16, y: u16) ->
 pub fn up_refusal(table: &[u16], queue: Queue, x: u16, n: u16) -> Asked
     ensures { λ r. ⌜ askedNumber r ≡ firstNo (codeQuestions (now (table .entry)) queue (up x n)) ⌝ }
 {
-    let early = cell_asked(table, queue, n, x, 0);
+    let early = cell_asked(table, queue.place, queue.count, n, x, 0);
     if let Asked::No(_) = early {
         return early;
     }
@@ -66,7 +66,7 @@ pub fn up_refusal(table: &[u16], queue: Queue, x: u16, n: u16) -> Asked
 pub fn down_refusal(table: &[u16], queue: Queue, x: u16, n: u16) -> Asked
     ensures { λ r. ⌜ askedNumber r ≡ firstNo (codeQuestions (now (table .entry)) queue (down x n)) ⌝ }
 {
-    let early = cell_asked(table, queue, n, x, 0);
+    let early = cell_asked(table, queue.place, queue.count, n, x, 0);
     if let Asked::No(_) = early {
         return early;
     }

@@ -29,7 +29,7 @@ returns c =
     let same = at-same .matched in
     let first = c .before .first-free in
     cons-asked (i .table .now) (i .queue) (i .x) (i .y) (x .result) (y .result) (same .result) (first .result) _
-    (x .ensures .0) (y .ensures .0) (same .ensures .0) (first .ensures) (c .cons-tests .ensures)
+    (x .ensures .0) (y .ensures .0) (same .ensures .0) (first .ensures) (c .cons-tests .ensures (i .queue))
 
 pub cons-late-spec : {M : Type 1} → statement M
 cons-late-spec =

@@ -15,7 +15,7 @@ returns c =
     let start = c .before .before .before in
     let i = start .args in
     let x = c .before .tally-of in
-    c .down-tests .ensures ∙ sym (down-late (i .table .now) (i .queue) (i .x) (i .n) (x .result) (start .pre .1) (start .pre .2) (x .ensures .0))
+    c .down-tests .ensures (i .queue) ∙ sym (down-late (i .table .now) (i .queue) (i .x) (i .n) (x .result) (start .pre .1) (start .pre .2) (x .ensures .0))
 
 pub down-late-spec : {M : Type 1} → statement M
 down-late-spec = tie.close (tie.spec tally-of-requires down-tests-requires returns)

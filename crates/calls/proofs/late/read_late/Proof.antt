@@ -23,7 +23,7 @@ returns c =
     let at-x = at-w .before in
     let start = at-x .before .before in
     let i = start .args in
-    c .read-tests .ensures
+    c .read-tests .ensures (i .queue)
     ∙ sym (read-late (i .table .now) (i .queue) (i .x) (i .w) (at-x .tally-of .result) (at-w .tally-of2 .result) (at-same .matched .result)
     (start .pre .1) (at-x .tally-of .ensures .0) (at-w .tally-of2 .ensures .0) (at-same .matched .ensures .0))
 

@@ -30,7 +30,7 @@ returns c =
     let same = at-same .matched in
     let kept = at-kept .matched2 in
     replace-either (i .table .now) (i .queue) (i .y) (i .d) (i .x) (y .result) (x .result) (same .result) (kept .result) _
-    (y .ensures .0) (x .ensures .0) (same .ensures .0) (kept .ensures .0) (c .replace-tests .ensures)
+    (y .ensures .0) (x .ensures .0) (same .ensures .0) (kept .ensures .0) (c .replace-tests .ensures (i .queue))
 
 pub replace-late-spec : {M : Type 1} → statement M
 replace-late-spec =

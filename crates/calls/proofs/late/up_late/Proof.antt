@@ -15,7 +15,7 @@ returns c =
     let start = c .before .before .before in
     let i = start .args in
     let x = c .before .tally-of in
-    c .up-tests .ensures ∙ sym (up-late (i .table .now) (i .queue) (i .x) (i .n) (x .result) (start .pre .1) (x .ensures .0))
+    c .up-tests .ensures (i .queue) ∙ sym (up-late (i .table .now) (i .queue) (i .x) (i .n) (x .result) (start .pre .1) (x .ensures .0))
 
 pub up-late-spec : {M : Type 1} → statement M
 up-late-spec = tie.close (tie.spec tally-of-requires up-tests-requires returns)

@@ -15,7 +15,7 @@ returns c =
     let at-early = c .before .before in
     let i = at-early .before .before .args in
     let early = at-early .words-asked in
-    cons-early (i .table .now) (i .queue) (i .x) (i .y) (early .result) (c .enum-told .given .0 .0) (early .ensures) (c .enum-told .given .1)
+    cons-early (i .table .now) (i .queue) (i .x) (i .y) (early .result) (c .enum-told .given .0 .0) (early .ensures (i .queue)) (c .enum-told .given .1)
 
 enum-told-2 : tie.Need-enum-told-2
 enum-told-2 c = search needs
@@ -24,7 +24,7 @@ cons-late-requires : tie.Need-cons-late-requires
 cons-late-requires c κs =
     let at-early = c .before .before in
     let i = at-early .before .before .args in
-    words-ready (i .table .now) (i .queue) 1 (i .x) (i .y) (at-early .words-asked .result) (c .enum-told2 .given .1) (at-early .words-asked .ensures)
+    words-ready (i .table .now) (i .queue) 1 (i .x) (i .y) (at-early .words-asked .result) (c .enum-told2 .given .1) (at-early .words-asked .ensures (i .queue))
 
 returns-2 : tie.Need-returns-2
 returns-2 c =
@@ -33,7 +33,7 @@ returns-2 c =
     let i = at-early .before .before .args in
     let early = at-early .words-asked in
     let late = c .cons-late in
-    cons-whole (i .table .now) (i .queue) (i .x) (i .y) (early .result) (late .result) (early .ensures) (at-told .enum-told2 .given .1) (late .ensures)
+    cons-whole (i .table .now) (i .queue) (i .x) (i .y) (early .result) (late .result) (early .ensures (i .queue)) (at-told .enum-told2 .given .1) (late .ensures)
 
 pub cons-refusal-spec : {M : Type 1} → statement M
 cons-refusal-spec =

@@ -15,7 +15,7 @@ accepted : (c : tie.After-enum-told2) → Callable (start c .args .table .now) (
 accepted c =
     let at-early = c .before .before in
     let i = at-early .before .before .args in
-    cell-ready (i .table .now) (i .queue) 1 (i .x) (i .y) (at-early .cell-asked .result) (c .enum-told2 .given .1) (at-early .cell-asked .ensures)
+    cell-ready (i .table .now) (i .queue) 1 (i .x) (i .y) (at-early .cell-asked .result) (c .enum-told2 .given .1) (at-early .cell-asked .ensures (i .queue))
 
 enum-told : tie.Need-enum-told
 enum-told c = search needs
@@ -26,7 +26,7 @@ returns c =
     let start = at-early .before .before in
     let i = start .args in
     let early = at-early .cell-asked in
-    replace-early (i .table .now) (i .queue) (i .k) (i .x) (i .y) (early .result) (c .enum-told .given .0 .0) (start .pre) (early .ensures) (c .enum-told .given .1)
+    replace-early (i .table .now) (i .queue) (i .k) (i .x) (i .y) (early .result) (c .enum-told .given .0 .0) (start .pre) (early .ensures (i .queue)) (c .enum-told .given .1)
 
 enum-told-2 : tie.Need-enum-told-2
 enum-told-2 c = search needs
@@ -51,7 +51,7 @@ returns-2 c =
     let early = at-early .cell-asked in
     let late = c .replace-late in
     replace-whole (i .table .now) (i .queue) (i .k) (i .x) (i .y) (d .result) (early .result) (late .result) (start .pre) (d .ensures)
-    (early .ensures) (at-told .enum-told2 .given .1) (late .ensures)
+    (early .ensures (i .queue)) (at-told .enum-told2 .given .1) (late .ensures)
 
 pub replace-refusal-spec : {M : Type 1} → statement M
 replace-refusal-spec =
