@@ -93,7 +93,16 @@ fn read_cell(table: &[u16], queue: Queue, k: usize, x: u16) -> RowReply
     ensures { λ r. ⌜ RowCalled (now (table .entry)) queue (readCall k x) (r .answer) (now (table .entry)) (r .queue) ⌝ }
 {
     let w = cells::field(table, (x as usize) - 1, k);
-    let asked = read_late(table, queue, x, w);
+    let asked = read_late(
+        table,
+        &queue.kinds,
+        &queue.a,
+        &queue.b,
+        queue.place,
+        queue.count,
+        x,
+        w,
+    );
     if let Asked::No(refusal) = asked {
         return refused(queue, refusal);
     }
@@ -154,7 +163,16 @@ fn cons_words(table: &mut [u16], queue: Queue, x: u16, y: u16) -> RowReply
     requires { ⌜ wordsNumber (now table) queue 1 x y ≡ 0 ⌝ }
     ensures { λ r. ⌜ RowCalled (now (table .entry)) queue (cons x y) (r .answer) (now (table .exit)) (r .queue) ⌝ }
 {
-    let asked = cons_late(table, queue, x, y);
+    let asked = cons_late(
+        table,
+        &queue.kinds,
+        &queue.a,
+        &queue.b,
+        queue.place,
+        queue.count,
+        x,
+        y,
+    );
     if let Asked::No(refusal) = asked {
         return refused(queue, refusal);
     }
@@ -197,7 +215,17 @@ fn replace_in_cell(table: &mut [u16], queue: Queue, k: usize, x: u16, y: u16) ->
 {
     let index = (x as usize) - 1;
     let d = cells::field(table, index, k);
-    let asked = replace_late(table, queue, y, d, x);
+    let asked = replace_late(
+        table,
+        &queue.kinds,
+        &queue.a,
+        &queue.b,
+        queue.place,
+        queue.count,
+        y,
+        d,
+        x,
+    );
     if let Asked::No(refusal) = asked {
         return refused(queue, refusal);
     }
@@ -236,7 +264,16 @@ fn up_cell(table: &[u16], queue: Queue, x: u16, n: u16) -> RowReply
     requires { ⌜ cellNumber (now table) queue n x 0 ≡ 0 ⌝ }
     ensures { λ r. ⌜ RowCalled (now (table .entry)) queue (up x n) (r .answer) (now (table .entry)) (r .queue) ⌝ }
 {
-    let asked = up_late(table, queue, x, n);
+    let asked = up_late(
+        table,
+        &queue.kinds,
+        &queue.a,
+        &queue.b,
+        queue.place,
+        queue.count,
+        x,
+        n,
+    );
     if let Asked::No(refusal) = asked {
         return refused(queue, refusal);
     }
@@ -264,7 +301,16 @@ fn down_cell(table: &[u16], queue: Queue, x: u16, n: u16) -> RowReply
     requires { ⌜ cellNumber (now table) queue n x 0 ≡ 0 ⌝ }
     ensures { λ r. ⌜ RowCalled (now (table .entry)) queue (down x n) (r .answer) (now (table .entry)) (r .queue) ⌝ }
 {
-    let asked = down_late(table, queue, x, n);
+    let asked = down_late(
+        table,
+        &queue.kinds,
+        &queue.a,
+        &queue.b,
+        queue.place,
+        queue.count,
+        x,
+        n,
+    );
     if let Asked::No(refusal) = asked {
         return refused(queue, refusal);
     }

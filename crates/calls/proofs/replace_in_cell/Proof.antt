@@ -12,12 +12,16 @@ use Rattle.calls.proofs.RowLaws.{row-refused, late-slot, replace-done}
 use Rattle.calls.proofs.replace_in_cell.Statement.{statement}
 use Rattle.calls.proofs.replace_in_cell.Tie as tie
 
+abbrev at-field : tie.After-replace-late → tie.After-field
+at-field c = c .before .before .before .before .before .before
+
+-- the queue, whose arrays are lent, goes by the name t2
 abbrev start : tie.After-replace-late → tie.Start
-start c = c .before .before .before .before .before
+start c = at-field c .before .before .before
 
 -- what the early questions' "yes" leaves
-accepted : (c : tie.Start) → Callable (c .args .table .now) (c .args .queue) 1 (c .args .x)
-accepted c = let i = c .args in callable (i .table .now) (i .queue) 1 (i .x) (i .y) (c .pre .1)
+accepted : (c : tie.Start) → Callable (c .args .table .now) (c .args .t2) 1 (c .args .x)
+accepted c = let i = c .args in callable (i .table .now) (i .t2) 1 (i .x) (i .y) (c .pre .1)
 
 sub-index : tie.Need-sub-index
 sub-index c = accepted (c .before) .first
@@ -26,16 +30,17 @@ field-requires : tie.Need-field-requires
 field-requires c κs = let s = c .before .before in (accepted s .inside, s .pre .0)
 
 replace-late-requires : tie.Need-replace-late-requires
-replace-late-requires c κs = accepted (c .before .before .before .before) .shape
+replace-late-requires c κs =
+    let shape = accepted (c .before .before .before .before .before .before .before .before) .shape in (shape .table, shape .queue .place, shape .queue .count)
 
 -- the late answer is the call's
-whole : (c : tie.After-replace-late) → askedNumber (c .replace-late .result) ≡ firstNo (codeQuestions (start c .args .table .now) (start c .args .queue) (replaceCall (start c .args .k) (start c .args .x) (start c .args .y)))
+whole : (c : tie.After-replace-late) → askedNumber (c .replace-late .result) ≡ firstNo (codeQuestions (start c .args .table .now) (start c .args .t2) (replaceCall (start c .args .k) (start c .args .x) (start c .args .y)))
 whole c =
     let s = start c in
     let i = s .args in
-    let d = c .before .before .field in
-    replace-whole (i .table .now) (i .queue) (i .k) (i .x) (i .y) (d .result) (c .replace-late .result) (s .pre .0) (d .ensures) (s .pre .1)
-    (c .replace-late .ensures)
+    let d = at-field c .field in
+    replace-whole (i .table .now) (i .t2) (i .k) (i .x) (i .y) (d .result) (c .replace-late .result) (s .pre .0) (d .ensures) (s .pre .1)
+    (λ kind h. c .replace-late .ensures kind h (i .t2 .c))
 
 enum-known-asked : tie.Need-enum-known-asked
 enum-known-asked c = search needs
@@ -52,7 +57,7 @@ returns c =
     let at-late = at-no .before .before in
     let i = start at-late .args in
     let no = at-no .asked .given in
-    row-refused (i .table .now) (i .queue) (replaceCall (i .k) (i .x) (i .y)) (at-late .replace-late .result) (no .0 .0) (c .refused .result .answer) (c .refused .result .queue)
+    row-refused (i .table .now) (i .t2) (replaceCall (i .k) (i .x) (i .y)) (at-late .replace-late .result) (no .0 .0) (c .refused .result .answer) (c .refused .result .queue)
     (whole at-late) (no .1) (c .refused .ensures .0) (c .refused .ensures .1)
 
 enum-told : tie.Need-enum-told
@@ -72,8 +77,8 @@ done-requires c κs =
     let i = s .args in
     let late = at-late .replace-late in (
       accepted s .shape .queue .place,
-      late-slot (i .table .now) (i .queue) (late .result) (at-told .enum-told .given .1)
-          (packet 3 (i .y) (at-late .before .before .field .result) (i .x)) (late .ensures 3 (inl refl)),
+      late-slot (i .table .now) (i .t2) (late .result) (at-told .enum-told .given .1)
+          (packet 3 (i .y) (at-field at-late .field .result) (i .x)) (late .ensures 3 (inl refl) (i .t2 .c)),
     )
 
 same-length-2 : tie.Need-same-length-2
@@ -87,9 +92,9 @@ returns-2 c =
     let at-late = at-told .before .before in
     let s = start at-late in
     let i = s .args in
-    let d = at-late .before .before .field in
+    let d = at-field at-late .field in
     let kind = at-kind .replace-kind in
-    replace-done (i .table .now) (i .queue) (at-late .replace-late .result) (at-told .enum-told .given .1) (c .done .result .answer) (c .done .result .queue)
+    replace-done (i .table .now) (i .t2) (at-late .replace-late .result) (at-told .enum-told .given .1) (c .done .result .answer) (c .done .result .queue)
     (i .k) (kind .result) (i .x) (i .y) (d .result) _ (s .pre .0) (kind .ensures) (whole at-late) (d .ensures) (at-set .set-field .ensures)
     (c .done .ensures .0) (c .done .ensures .1)
 
