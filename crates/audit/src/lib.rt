@@ -41,7 +41,7 @@ fn judge(table: &[u16], queue: Queue, scratch: &mut [u16]) -> AuditAnswer
 pub fn audit_store(table: &[u16], queue: Queue, scratch: &mut [u16]) -> AuditAnswer
     ensures { λ r. ⌜ Audited (now (table .entry)) queue (now (scratch .entry)) (now (scratch .exit)) r ⌝ }
 {
-    let asked = questions::lent(table, queue, scratch);
+    let asked = questions::lent(table, queue.place, queue.count, scratch);
     match asked {
         Asked::Yes => {
             let answer = judge(table, queue, scratch);

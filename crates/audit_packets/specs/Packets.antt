@@ -7,7 +7,7 @@ use lib.Dec.{leb}
 use Rattle.machine.specs.declared.Queue.{Queue}
 use Rattle.machine.specs.Audit.{packetLegal, namesInUse, isZeroPacket, replays}
 use Rattle.machine.specs.Packets.{root, plus, minus, uses, waitingChange}
-use Rattle.machine.specs.Queue.{Packet, slots, slot, packetsFrom, waiting}
+use Rattle.machine.specs.Queue.{Packet, slots, placed, slot, packetsFrom, waiting}
 use Rattle.machine.specs.Range.{every}
 use Rattle.machine.specs.Table.{rootCount, capacity, wordAt}
 use Rattle.machine.specs.Words.{isCell, ceiling}
@@ -23,7 +23,7 @@ oldest q j = packetsFrom q (q .place) j
 
 -- the queue with these alone waiting
 abbrev pub cutTo : Queue → ℕ → Queue
-cutTo q j = record { kinds = q .kinds; a = q .a; b = q .b; c = q .c; place = q .place; count = j }
+cutTo q j = placed q (q .place) j
 
 -- the slot j places behind the waiting ones
 unfoldable pub restZero : Queue → ℕ → Bool

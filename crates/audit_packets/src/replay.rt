@@ -38,9 +38,7 @@ fn held_after(queue: Queue, j: u16, x: u16, root: RootCount) -> HeldSums
     requires { ⌜ (queue .place < slots) × (j ≤ slots) ⌝ }
     ensures { λ r. ⌜ HeldAfter (oldest queue j) x (root .0) r ⌝ }
 {
-    let mut cut = queue;
-    cut.count = j;
-    let sums = queue::waiting_changes(cut, x);
+    let sums = queue::waiting_changes(&queue.kinds, &queue.a, &queue.b, queue.place, j, x);
     let held = sums.held;
     held.with(root)
 }

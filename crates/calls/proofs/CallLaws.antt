@@ -7,9 +7,7 @@ use Prim.Native.Nat.{ℕ, zero, suc, _-_, _≤_}
 use native.Mathlib.Omega.{arith}
 use lib.Dec.{eqb}
 use Rattle.machine.specs.declared.Queue.{Queue}
-use Rattle.machine.specs.declared.Asked
 use Rattle.machine.specs.declared.Asked.{Asked}
-use Rattle.machine.specs.declared.Refusal.{Refusal}
 use Rattle.machine.specs.Range.{everyOf}
 use Rattle.machine.specs.Words.{isNil, isCell, isLegal}
 use Rattle.machine.specs.Table.{left, right, capacity, firstFree, wordAt}
@@ -22,7 +20,7 @@ use Rattle.machine.proofs.Questions.{Numbered, firstNo-append, firstNo-none, ea
 use Rattle.calls.specs.Early.{wordsNumber, firstOf, cellNumber, Replaces}
 use Rattle.calls.specs.Tests.{codeLate, codeQuestions}
 use Rattle.calls.specs.Called.{readCall, replaceCall, ReplaceKind}
-use Rattle.calls.proofs.EarlyLaws.{early-first, late-first}
+use Rattle.calls.proofs.EarlyLaws.{late-first}
 
 -- the first "no" of two lists, by numbers
 first-append : (ks ls : List Question) → Numbered ks → firstNo (ks ++ ls) ≡ firstOf (firstNo ks) (firstNo ls)
@@ -131,62 +129,34 @@ module _ (t : List ℕ) (q : Queue) where
   unfolding packetOf
   down-questions x n = questions-split t q (down x n) ∙ ap (λ (a : ℕ). firstOf a (firstNo (codeLate t q (packet 5 x n 0)))) (early-down x n)
 
-  -- each call's answer: an early "no", or what the late questions say
-  pub read-early : (k x : ℕ) (e : Asked) (f : Refusal) → k ≤ right → askedNumber e ≡ cellNumber t q 1 x 0 → e ≡ Asked.No f
-      → askedNumber e ≡ firstNo (codeQuestions t q (readCall k x))
-  read-early k x e f l h d =
-      early-first (firstNo (codeQuestions t q (readCall k x))) (cellNumber t q 1 x 0) (firstNo (codeLate t q (packet 1 x (field t x k) 0))) e f
-      (read-questions k x (field t x k) l refl) h d
+  -- where the early questions say "yes", the late answer is the call's
+  pub read-whole : (k x w : ℕ) (late : Asked) → k ≤ right → w ≡ wordAt t (x - 1) k → cellNumber t q 1 x 0 ≡ 0
+      → askedNumber late ≡ firstNo (codeLate t q (packet 1 x w 0)) → askedNumber late ≡ firstNo (codeQuestions t q (readCall k x))
+  read-whole k x w late l b z a =
+      late-first (firstNo (codeQuestions t q (readCall k x))) (cellNumber t q 1 x 0) (firstNo (codeLate t q (packet 1 x w 0))) late
+      (read-questions k x w l (read-back t x k w b)) z a
 
-  pub read-whole : (k x w : ℕ) (e r : Asked) → k ≤ right → w ≡ wordAt t (x - 1) k → askedNumber e ≡ cellNumber t q 1 x 0 → e ≡ Asked.Yes
-      → askedNumber r ≡ firstNo (codeLate t q (packet 1 x w 0)) → askedNumber r ≡ firstNo (codeQuestions t q (readCall k x))
-  read-whole k x w e r l b h d a =
-      late-first (firstNo (codeQuestions t q (readCall k x))) (cellNumber t q 1 x 0) (firstNo (codeLate t q (packet 1 x w 0))) e r
-      (read-questions k x w l (read-back t x k w b)) h d a
+  pub cons-whole : (x y : ℕ) (late : Asked) → wordsNumber t q 1 x y ≡ 0 → askedNumber late ≡ firstNo (codeLate t q (packet 2 x y (firstFree t)))
+      → askedNumber late ≡ firstNo (codeQuestions t q (cons x y))
+  cons-whole x y late z a =
+      late-first (firstNo (codeQuestions t q (cons x y))) (wordsNumber t q 1 x y) (firstNo (codeLate t q (packet 2 x y (firstFree t)))) late
+      (cons-questions x y) z a
 
-  pub cons-early : (x y : ℕ) (e : Asked) (f : Refusal) → askedNumber e ≡ wordsNumber t q 1 x y → e ≡ Asked.No f
-      → askedNumber e ≡ firstNo (codeQuestions t q (cons x y))
-  cons-early x y e f h d =
-      early-first (firstNo (codeQuestions t q (cons x y))) (wordsNumber t q 1 x y) (firstNo (codeLate t q (packet 2 x y (firstFree t)))) e f
-      (cons-questions x y) h d
-
-  pub cons-whole : (x y : ℕ) (e r : Asked) → askedNumber e ≡ wordsNumber t q 1 x y → e ≡ Asked.Yes
-      → askedNumber r ≡ firstNo (codeLate t q (packet 2 x y (firstFree t))) → askedNumber r ≡ firstNo (codeQuestions t q (cons x y))
-  cons-whole x y e r h d a =
-      late-first (firstNo (codeQuestions t q (cons x y))) (wordsNumber t q 1 x y) (firstNo (codeLate t q (packet 2 x y (firstFree t)))) e r
-      (cons-questions x y) h d a
-
-  pub replace-early : (k x y : ℕ) (e : Asked) (f : Refusal) → k ≤ right → askedNumber e ≡ cellNumber t q 1 x y → e ≡ Asked.No f
-      → askedNumber e ≡ firstNo (codeQuestions t q (replaceCall k x y))
-  replace-early k x y e f l h d =
-      early-first (firstNo (codeQuestions t q (replaceCall k x y))) (cellNumber t q 1 x y) (firstNo (codeLate t q (packet (fieldKind k) y (field t x k) x))) e f
-      (replace-questions k (fieldKind k) x y (field t x k) l (field-kind k l) refl) h d
-
-  pub replace-whole : (k x y d : ℕ) (e r : Asked) → k ≤ right → d ≡ wordAt t (x - 1) k → askedNumber e ≡ cellNumber t q 1 x y → e ≡ Asked.Yes
-      → ((kind : ℕ) → Replaces kind → askedNumber r ≡ firstNo (codeLate t q (packet kind y d x)))
-      → askedNumber r ≡ firstNo (codeQuestions t q (replaceCall k x y))
-  replace-whole k x y d e r l b h s a =
+  pub replace-whole : (k x y d : ℕ) (late : Asked) → k ≤ right → d ≡ wordAt t (x - 1) k → cellNumber t q 1 x y ≡ 0
+      → ((kind : ℕ) → Replaces kind → askedNumber late ≡ firstNo (codeLate t q (packet kind y d x)))
+      → askedNumber late ≡ firstNo (codeQuestions t q (replaceCall k x y))
+  replace-whole k x y d late l b z a =
       let kind = fieldKind k in
       let of-field = field-kind k l in
-      late-first (firstNo (codeQuestions t q (replaceCall k x y))) (cellNumber t q 1 x y) (firstNo (codeLate t q (packet kind y d x))) e r
-      (replace-questions k kind x y d l of-field (read-back t x k d b)) h s (a kind (replace-kinds k kind of-field))
+      late-first (firstNo (codeQuestions t q (replaceCall k x y))) (cellNumber t q 1 x y) (firstNo (codeLate t q (packet kind y d x))) late
+      (replace-questions k kind x y d l of-field (read-back t x k d b)) z (a kind (replace-kinds k kind of-field))
 
-  pub up-early : (x n : ℕ) (e : Asked) (f : Refusal) → askedNumber e ≡ cellNumber t q n x 0 → e ≡ Asked.No f
-      → askedNumber e ≡ firstNo (codeQuestions t q (up x n))
-  up-early x n e f h d =
-      early-first (firstNo (codeQuestions t q (up x n))) (cellNumber t q n x 0) (firstNo (codeLate t q (packet 4 x n 0))) e f (up-questions x n) h d
+  pub up-whole : (x n : ℕ) (late : Asked) → cellNumber t q n x 0 ≡ 0 → askedNumber late ≡ firstNo (codeLate t q (packet 4 x n 0))
+      → askedNumber late ≡ firstNo (codeQuestions t q (up x n))
+  up-whole x n late z a =
+      late-first (firstNo (codeQuestions t q (up x n))) (cellNumber t q n x 0) (firstNo (codeLate t q (packet 4 x n 0))) late (up-questions x n) z a
 
-  pub up-whole : (x n : ℕ) (e r : Asked) → askedNumber e ≡ cellNumber t q n x 0 → e ≡ Asked.Yes → askedNumber r ≡ firstNo (codeLate t q (packet 4 x n 0))
-      → askedNumber r ≡ firstNo (codeQuestions t q (up x n))
-  up-whole x n e r h d a =
-      late-first (firstNo (codeQuestions t q (up x n))) (cellNumber t q n x 0) (firstNo (codeLate t q (packet 4 x n 0))) e r (up-questions x n) h d a
-
-  pub down-early : (x n : ℕ) (e : Asked) (f : Refusal) → askedNumber e ≡ cellNumber t q n x 0 → e ≡ Asked.No f
-      → askedNumber e ≡ firstNo (codeQuestions t q (down x n))
-  down-early x n e f h d =
-      early-first (firstNo (codeQuestions t q (down x n))) (cellNumber t q n x 0) (firstNo (codeLate t q (packet 5 x n 0))) e f (down-questions x n) h d
-
-  pub down-whole : (x n : ℕ) (e r : Asked) → askedNumber e ≡ cellNumber t q n x 0 → e ≡ Asked.Yes → askedNumber r ≡ firstNo (codeLate t q (packet 5 x n 0))
-      → askedNumber r ≡ firstNo (codeQuestions t q (down x n))
-  down-whole x n e r h d a =
-      late-first (firstNo (codeQuestions t q (down x n))) (cellNumber t q n x 0) (firstNo (codeLate t q (packet 5 x n 0))) e r (down-questions x n) h d a
+  pub down-whole : (x n : ℕ) (late : Asked) → cellNumber t q n x 0 ≡ 0 → askedNumber late ≡ firstNo (codeLate t q (packet 5 x n 0))
+      → askedNumber late ≡ firstNo (codeQuestions t q (down x n))
+  down-whole x n late z a =
+      late-first (firstNo (codeQuestions t q (down x n))) (cellNumber t q n x 0) (firstNo (codeLate t q (packet 5 x n 0))) late (down-questions x n) z a

@@ -97,8 +97,8 @@ cell-is t q n x y h = refused-five (isCell (capacity t) x) (first-both (wordsNum
 pub early-first : (total a b : ℕ) (r : Asked) (f : Refusal) → total ≡ firstOf a b → askedNumber r ≡ a → r ≡ Asked.No f → askedNumber r ≡ total
 early-first total a b r f e h d = h ∙ sym (first-some a b (λ z. omega (arith, refusal-some f, asked-no h d ∙ z))) ∙ sym e
 
-pub late-first : (total a b : ℕ) (r m : Asked) → total ≡ firstOf a b → askedNumber r ≡ a → r ≡ Asked.Yes → askedNumber m ≡ b → askedNumber m ≡ total
-late-first total a b r m e h d k = k ∙ ap (λ (i : ℕ). firstOf i b) (asked-yes h d) ∙ sym e
+pub late-first : (total a b : ℕ) (r : Asked) → total ≡ firstOf a b → a ≡ 0 → askedNumber r ≡ b → askedNumber r ≡ total
+late-first total a b r e z h = h ∙ sym (e ∙ ap (λ (i : ℕ). firstOf i b) z)
 
 pub words-first : (t : List ℕ) (q : Queue) (n x y : ℕ) (r : Asked) (f : Refusal) → askedNumber r ≡ wordsNumber t q n x y → r ≡ Asked.No f
     → askedNumber r ≡ cellNumber t q n x y
@@ -128,11 +128,14 @@ callable t q n x y e =
     }
 
 module _ (t : List ℕ) (q : Queue) (n x y : ℕ) (r : Asked) (yes : r ≡ Asked.Yes) where
-  pub cell-ready : askedNumber r ≡ cellNumber t q n x y → Callable t q n x
-  cell-ready h = callable t q n x y (sym (asked-yes h yes))
+  pub words-accepted : askedNumber r ≡ wordsNumber t q n x y → wordsNumber t q n x y ≡ 0
+  words-accepted h = sym (asked-yes h yes)
+
+  pub cell-accepted : askedNumber r ≡ cellNumber t q n x y → cellNumber t q n x y ≡ 0
+  cell-accepted h = sym (asked-yes h yes)
 
   pub words-ready : askedNumber r ≡ wordsNumber t q n x y → Shape t q
-  words-ready h = words-shape t q n x y (sym (asked-yes h yes))
+  words-ready h = words-shape t q n x y (words-accepted h)
 
   pub cell-yes : askedNumber r ≡ wordsNumber t q n x y → isCell (capacity t) x ≡ true → 0 ≡ cellNumber t q n x y
   unfolding cellNumber

@@ -1,4 +1,4 @@
--- What a row call gives, refused and done; and what the questions' "yes" to all leaves to lean on.
+-- What a row call gives, refused and done; and what the late questions' "yes" leaves to lean on.
 use mathlib.Core.Path.{_≡_, refl, sym, ap, ap₂, _∙_}
 use mathlib.Core.Bool.{Bool, true, false, cond, not}
 use mathlib.Core.List.{List, [], _∷_, _++_}
@@ -16,6 +16,7 @@ use Rattle.machine.specs.declared.Refusal.{Refusal}
 use Rattle.machine.specs.Table.{left, right, newCell, firstFree, lastFree, tableLength, wordAt, putWord, putEnds, putCell}
 use Rattle.machine.specs.Queue.{Packet, packet, slots, appended, waiting}
 use Rattle.machine.specs.Packets.{root, cell, kindOf, reads, replaces}
+use Rattle.machine.specs.Facts.{Shape}
 use Rattle.machine.specs.Calls.{RowCall, cons, up, down, row, value, refused, store, field, packetOf, withoutFirst, written, valueOf}
 use Rattle.machine.specs.Step.{Outcome, outcome}
 use Rattle.machine.specs.Questions.{ask, firstNo, refusedBy, heldEnough, slotEmpty}
@@ -24,7 +25,7 @@ use Rattle.machine.specs.Answers.{refusalNumber, askedNumber, rowReply}
 use Rattle.calls.specs.Tests.{raisedWithin, freeByEnd, codeLate, codeQuestions}
 use Rattle.calls.specs.Early.{wordsNumber, firstOf, cellNumber}
 use Rattle.calls.specs.Called.{readCall, replaceCall, ReplaceKind, outcomeOf, RowCalled}
-use Rattle.calls.proofs.EarlyLaws.{words-shape, first-both, callable}
+use Rattle.calls.proofs.EarlyLaws.{early-first}
 use Rattle.machine.proofs.Answers.{refusal-some, asked-no, asked-yes}
 use Rattle.calls.proofs.CallLaws.{fieldKind, field-kind, read-packet, replace-packet, read-back, read-questions, cons-questions, replace-questions, up-questions, down-questions}
 
@@ -66,6 +67,29 @@ module _ (t : List ℕ) (q : Queue) (r : RowCall) where
         queue = c ∙ sym (ap (λ (x : Outcome). x .after .queue) o);
       }
 
+-- an early "no" refuses the call
+module _ (t : List ℕ) (q : Queue) (asked : Asked) (f : Refusal) (no : asked ≡ Asked.No f) (a : RowAnswer) (q′ : Queue) (h : a ≡ RowAnswer.Refused f) (e : q′ ≡ q) where
+  early-refused : (r : RowCall) (early late : ℕ) → firstNo (codeQuestions t q r) ≡ firstOf early late → askedNumber asked ≡ early → RowCalled t q r a t q′
+  early-refused r early late d z = row-refused t q r asked f a q′ (early-first (firstNo (codeQuestions t q r)) early late asked f d z no) no h e
+
+  pub read-refused : (k x : ℕ) → k ≤ right → askedNumber asked ≡ cellNumber t q 1 x 0 → RowCalled t q (readCall k x) a t q′
+  read-refused k x l =
+      early-refused (readCall k x) (cellNumber t q 1 x 0) (firstNo (codeLate t q (packet 1 x (field t x k) 0))) (read-questions t q k x (field t x k) l refl)
+
+  pub cons-refused : (x y : ℕ) → askedNumber asked ≡ wordsNumber t q 1 x y → RowCalled t q (cons x y) a t q′
+  cons-refused x y = early-refused (cons x y) (wordsNumber t q 1 x y) (firstNo (codeLate t q (packet 2 x y (firstFree t)))) (cons-questions t q x y)
+
+  pub replace-refused : (k x y : ℕ) → k ≤ right → askedNumber asked ≡ cellNumber t q 1 x y → RowCalled t q (replaceCall k x y) a t q′
+  replace-refused k x y l =
+      early-refused (replaceCall k x y) (cellNumber t q 1 x y) (firstNo (codeLate t q (packet (fieldKind k) y (field t x k) x)))
+      (replace-questions t q k (fieldKind k) x y (field t x k) l (field-kind k l) refl)
+
+  pub up-refused : (x n : ℕ) → askedNumber asked ≡ cellNumber t q n x 0 → RowCalled t q (up x n) a t q′
+  up-refused x n = early-refused (up x n) (cellNumber t q n x 0) (firstNo (codeLate t q (packet 4 x n 0))) (up-questions t q x n)
+
+  pub down-refused : (x n : ℕ) → askedNumber asked ≡ cellNumber t q n x 0 → RowCalled t q (down x n) a t q′
+  down-refused x n = early-refused (down x n) (cellNumber t q n x 0) (firstNo (codeLate t q (packet 5 x n 0))) (down-questions t q x n)
+
 -- a late "yes" to all: a slot is empty, and for a cons there is a first free cell
 second-yes : (a b : Bool) (n : ℕ) → refusedBy a 6 (refusedBy b 7 n) ≡ 0 → b ≡ true
 second-yes true true n h = refl
@@ -78,71 +102,30 @@ third-yes true true false n h = absurd (omega arith)
 third-yes true false c n h = absurd (omega arith)
 third-yes false b c n h = absurd (omega arith)
 
-pub late-slot : (t : List ℕ) (q : Queue) (p : Packet) → firstNo (codeLate t q p) ≡ 0 → q .count < slots
-unfolding codeLate firstNo slotEmpty
-late-slot t q p h =
-    ltb-true (q .count) slots
-    (second-yes (heldEnough t (waiting q) p) (ltb (q .count) slots)
-    (firstNo (freeByEnd (kindOf (p .kind)) t ++ (ask 9 (raisedWithin root t (waiting q) p) ∷ ask 10 (raisedWithin cell t (waiting q) p) ∷ []))) h)
+module _ (t : List ℕ) (q : Queue) (late : Asked) (yes : late ≡ Asked.Yes) where
+  pub late-slot : (p : Packet) → askedNumber late ≡ firstNo (codeLate t q p) → q .count < slots
+  unfolding codeLate firstNo slotEmpty
+  late-slot p e =
+      ltb-true (q .count) slots
+      (second-yes (heldEnough t (waiting q) p) (ltb (q .count) slots)
+      (firstNo (freeByEnd (kindOf (p .kind)) t ++ (ask 9 (raisedWithin root t (waiting q) p) ∷ ask 10 (raisedWithin cell t (waiting q) p) ∷ [])))
+      (sym (asked-yes e yes)))
 
-pub late-free : (t : List ℕ) (q : Queue) (x y z : ℕ) → firstNo (codeLate t q (packet 2 x y z)) ≡ 0 → firstFree t ≡ 0 → ⊥
-unfolding codeLate firstNo freeByEnd kindOf
-late-free t q x y z h =
-    let p = packet 2 x y z in
-    eqb-false (firstFree t) 0
-    (not-true (eqb (firstFree t) 0)
-    (third-yes (heldEnough t (waiting q) p) (slotEmpty q) (not (eqb (firstFree t) 0))
-    (firstNo (ask 9 (raisedWithin root t (waiting q) p) ∷ ask 10 (raisedWithin cell t (waiting q) p) ∷ [])) h))
+  late-free : (x y z : ℕ) → askedNumber late ≡ firstNo (codeLate t q (packet 2 x y z)) → firstFree t ≡ 0 → ⊥
+  unfolding codeLate firstNo freeByEnd kindOf
+  late-free x y z e =
+      let p = packet 2 x y z in
+      eqb-false (firstFree t) 0
+      (not-true (eqb (firstFree t) 0)
+      (third-yes (heldEnough t (waiting q) p) (slotEmpty q) (not (eqb (firstFree t) 0))
+      (firstNo (ask 9 (raisedWithin root t (waiting q) p) ∷ ask 10 (raisedWithin cell t (waiting q) p) ∷ [])) (sym (asked-yes e yes))))
 
--- what an accepted call with the cell x leans on
-pub record Ready (t : List ℕ) (q : Queue) (x : ℕ) : Type 0 where
-  pub inside : tableLength (suc (x - 1)) ≤ length t
-  pub some : 1 ≤ x
-  pub place : q .place < slots
-  pub slot : q .count < slots
-
-ready : (t : List ℕ) (q : Queue) (n x y : ℕ) (p : Packet) (total : ℕ) → total ≡ firstOf (cellNumber t q n x y) (firstNo (codeLate t q p)) → 0 ≡ total
-    → Ready t q x
-ready t q n x y p total e z =
-    let both = first-both (cellNumber t q n x y) (firstNo (codeLate t q p)) (sym (z ∙ e)) in
-    let c = callable t q n x y (both .0) in
-    record {
-      inside = c .inside;
-      some = c .first;
-      place = c .shape .queue .place;
-      slot = late-slot t q p (both .1);
-    }
-
-module _ (t : List ℕ) (q : Queue) (asked : Asked) (yes : asked ≡ Asked.Yes) where
-  pub read-ready : (k x : ℕ) → k ≤ right → askedNumber asked ≡ firstNo (codeQuestions t q (readCall k x)) → Ready t q x
-  read-ready k x l z =
-      ready t q 1 x 0 (packet 1 x (field t x k) 0) (firstNo (codeQuestions t q (readCall k x))) (read-questions t q k x (field t x k) l refl) (asked-yes z yes)
-
-  pub replace-ready : (k x y : ℕ) → k ≤ right → askedNumber asked ≡ firstNo (codeQuestions t q (replaceCall k x y)) → Ready t q x
-  replace-ready k x y l z =
-      ready t q 1 x y (packet (fieldKind k) y (field t x k) x) (firstNo (codeQuestions t q (replaceCall k x y)))
-      (replace-questions t q k (fieldKind k) x y (field t x k) l (field-kind k l) refl) (asked-yes z yes)
-
-  pub up-ready : (x n : ℕ) → askedNumber asked ≡ firstNo (codeQuestions t q (up x n)) → Ready t q x
-  up-ready x n z = ready t q n x 0 (packet 4 x n 0) (firstNo (codeQuestions t q (up x n))) (up-questions t q x n) (asked-yes z yes)
-
-  pub down-ready : (x n : ℕ) → askedNumber asked ≡ firstNo (codeQuestions t q (down x n)) → Ready t q x
-  down-ready x n z = ready t q n x 0 (packet 5 x n 0) (firstNo (codeQuestions t q (down x n))) (down-questions t q x n) (asked-yes z yes)
-
-  -- of a cons: the first free cell is one
-  pub cons-ready : (x y : ℕ) → askedNumber asked ≡ firstNo (codeQuestions t q (cons x y)) → Ready t q (firstFree t)
-  cons-ready x y z =
-      let late = firstNo (codeLate t q (packet 2 x y (firstFree t))) in
-      let both = first-both (wordsNumber t q 1 x y) late (sym (asked-yes z yes ∙ cons-questions t q x y)) in
-      let shape = words-shape t q 1 x y (both .0) in
+  -- the first free cell is one of the table's
+  pub first-cell : (x y z : ℕ) → Shape t q → askedNumber late ≡ firstNo (codeLate t q (packet 2 x y z)) → (1 ≤ firstFree t) × (tableLength (firstFree t) ≤ length t)
+  first-cell x y z shape e =
       let table = shape .table in
-      let d = late-free t q x y (firstFree t) (both .1) in
-      record {
-        inside = omega arith;
-        some = omega arith;
-        place = shape .queue .place;
-        slot = late-slot t q (packet 2 x y (firstFree t)) (both .1);
-      }
+      let d = late-free x y z e in
+      (omega arith, omega arith)
 
 -- the values and tables of reads and replaces
 read-value : (t : List ℕ) (k x : ℕ) → k ≤ right → valueOf t (readCall k x) ≡ field t x k

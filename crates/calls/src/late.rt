@@ -6,60 +6,105 @@ use crate::tests::read_tests;
 use crate::tests::replace_tests;
 use crate::tests::up_tests;
 use machine::Asked;
-use machine::Queue;
 ghost use mathlib.Core.Path.{_≡_};
 ghost use mathlib.Core.Bool.{true};
-ghost use Prim.Native.Nat.{ℕ, _≤_};
+ghost use Prim.Native.Nat.{ℕ, _≤_, _<_};
 ghost use Rattle.machine.specs.Words.{isCell};
 ghost use Rattle.machine.specs.Table.{capacity, firstFree};
-ghost use Rattle.machine.specs.Queue.{packet};
-ghost use Rattle.machine.specs.Facts.{Shape};
-ghost use Rattle.machine.specs.Questions.{firstNo};
-ghost use Rattle.machine.specs.Answers.{askedNumber};
+ghost use Rattle.machine.specs.Queue.{packet, slots};
+ghost use Rattle.machine.specs.Facts.{TableShape};
 ghost use Rattle.calls.specs.Early.{Replaces};
-ghost use Rattle.calls.specs.Tests.{codeLate};
+ghost use Rattle.calls.specs.Tests.{LateAnswer};
 
 // Of a read of x that gives w.
-pub fn read_late(table: &[u16], queue: Queue, x: u16, w: u16) -> Asked
-    requires { ⌜ Shape (now table) queue × (isCell (capacity (now table)) x ≡ true) ⌝ }
-    ensures { λ r. ⌜ askedNumber r ≡ firstNo (codeLate (now (table .entry)) queue (packet 1 x w 0)) ⌝ }
+pub fn read_late<'q>(
+    table: &[u16],
+    kinds: &'q [u16; 64],
+    a: &'q [u16; 64],
+    b: &'q [u16; 64],
+    place: u16,
+    count: u16,
+    x: u16,
+    w: u16,
+) -> Asked
+    requires { ⌜ TableShape (now table) × (place < slots) × (count ≤ slots) × (isCell (capacity (now table)) x ≡ true) ⌝ }
+    ensures { λ r. ⌜ LateAnswer (now (table .entry)) (now (kinds .entry)) (now (a .entry)) (now (b .entry)) place count (packet 1 x w 0) r ⌝ }
 {
-    let tx = tally_of(table, queue, x);
-    let tw = tally_of(table, queue, w);
-    read_tests(queue, tx, tw, queue::matched(x, w, 1))
+    let tx = tally_of(table, kinds, a, b, place, count, x);
+    let tw = tally_of(table, kinds, a, b, place, count, w);
+    read_tests(count, tx, tw, queue::matched(x, w, 1))
 }
 
-pub fn cons_late(table: &[u16], queue: Queue, x: u16, y: u16) -> Asked
-    requires { ⌜ Shape (now table) queue ⌝ }
-    ensures { λ r. ⌜ askedNumber r ≡ firstNo (codeLate (now (table .entry)) queue (packet 2 x y (firstFree (now (table .entry))))) ⌝ }
+pub fn cons_late<'q>(
+    table: &[u16],
+    kinds: &'q [u16; 64],
+    a: &'q [u16; 64],
+    b: &'q [u16; 64],
+    place: u16,
+    count: u16,
+    x: u16,
+    y: u16,
+) -> Asked
+    requires { ⌜ TableShape (now table) × (place < slots) × (count ≤ slots) ⌝ }
+    ensures { λ r. ⌜ LateAnswer (now (table .entry)) (now (kinds .entry)) (now (a .entry)) (now (b .entry)) place count
+        (packet 2 x y (firstFree (now (table .entry)))) r ⌝ }
 {
-    let tx = tally_of(table, queue, x);
-    let ty = tally_of(table, queue, y);
+    let tx = tally_of(table, kinds, a, b, place, count, x);
+    let ty = tally_of(table, kinds, a, b, place, count, y);
     let same = queue::matched(y, x, 1);
-    cons_tests(queue, tx, ty, same, cells::first_free(table))
+    cons_tests(count, tx, ty, same, cells::first_free(table))
 }
 
 // Of a replace in x by y that detaches d, whichever the field.
-pub fn replace_late(table: &[u16], queue: Queue, y: u16, d: u16, x: u16) -> Asked
-    requires { ⌜ Shape (now table) queue ⌝ }
-    ensures { λ r. ⌜ ((kind : ℕ) → Replaces kind → askedNumber r ≡ firstNo (codeLate (now (table .entry)) queue (packet kind y d x))) ⌝ }
+pub fn replace_late<'q>(
+    table: &[u16],
+    kinds: &'q [u16; 64],
+    a: &'q [u16; 64],
+    b: &'q [u16; 64],
+    place: u16,
+    count: u16,
+    y: u16,
+    d: u16,
+    x: u16,
+) -> Asked
+    requires { ⌜ TableShape (now table) × (place < slots) × (count ≤ slots) ⌝ }
+    ensures { λ r. ⌜ ((kind : ℕ) → Replaces kind → LateAnswer (now (table .entry)) (now (kinds .entry)) (now (a .entry)) (now (b .entry)) place count
+        (packet kind y d x) r) ⌝ }
 {
-    let ty = tally_of(table, queue, y);
-    let tx = tally_of(table, queue, x);
+    let ty = tally_of(table, kinds, a, b, place, count, y);
+    let tx = tally_of(table, kinds, a, b, place, count, x);
     let same = queue::matched(x, y, 1);
-    replace_tests(queue, ty, tx, same, queue::matched(d, y, 1))
+    replace_tests(count, ty, tx, same, queue::matched(d, y, 1))
 }
 
-pub fn up_late(table: &[u16], queue: Queue, x: u16, n: u16) -> Asked
-    requires { ⌜ Shape (now table) queue × (isCell (capacity (now table)) x ≡ true) ⌝ }
-    ensures { λ r. ⌜ askedNumber r ≡ firstNo (codeLate (now (table .entry)) queue (packet 4 x n 0)) ⌝ }
+pub fn up_late<'q>(
+    table: &[u16],
+    kinds: &'q [u16; 64],
+    a: &'q [u16; 64],
+    b: &'q [u16; 64],
+    place: u16,
+    count: u16,
+    x: u16,
+    n: u16,
+) -> Asked
+    requires { ⌜ TableShape (now table) × (place < slots) × (count ≤ slots) × (isCell (capacity (now table)) x ≡ true) ⌝ }
+    ensures { λ r. ⌜ LateAnswer (now (table .entry)) (now (kinds .entry)) (now (a .entry)) (now (b .entry)) place count (packet 4 x n 0) r ⌝ }
 {
-    up_tests(queue, tally_of(table, queue, x), n)
+    up_tests(count, tally_of(table, kinds, a, b, place, count, x), n)
 }
 
-pub fn down_late(table: &[u16], queue: Queue, x: u16, n: u16) -> Asked
-    requires { ⌜ Shape (now table) queue × (isCell (capacity (now table)) x ≡ true) × (1 ≤ n) ⌝ }
-    ensures { λ r. ⌜ askedNumber r ≡ firstNo (codeLate (now (table .entry)) queue (packet 5 x n 0)) ⌝ }
+pub fn down_late<'q>(
+    table: &[u16],
+    kinds: &'q [u16; 64],
+    a: &'q [u16; 64],
+    b: &'q [u16; 64],
+    place: u16,
+    count: u16,
+    x: u16,
+    n: u16,
+) -> Asked
+    requires { ⌜ TableShape (now table) × (place < slots) × (count ≤ slots) × (isCell (capacity (now table)) x ≡ true) × (1 ≤ n) ⌝ }
+    ensures { λ r. ⌜ LateAnswer (now (table .entry)) (now (kinds .entry)) (now (a .entry)) (now (b .entry)) place count (packet 5 x n 0) r ⌝ }
 {
-    down_tests(queue, tally_of(table, queue, x), n)
+    down_tests(count, tally_of(table, kinds, a, b, place, count, x), n)
 }

@@ -3,21 +3,22 @@ mod chain;
 mod early;
 mod late;
 mod operands;
-mod refusals;
 mod tests;
 
 use chain::make_chain;
+use early::cell_asked;
+use early::words_asked;
+use late::cons_late;
+use late::down_late;
+use late::read_late;
+use late::replace_late;
+use late::up_late;
 use machine::Asked;
 use machine::FreshAnswer;
 use machine::Queue;
 use machine::Refusal;
 use machine::RowAnswer;
 use queue::Packet;
-use refusals::cons_refusal;
-use refusals::down_refusal;
-use refusals::read_refusal;
-use refusals::replace_refusal;
-use refusals::up_refusal;
 ghost use mathlib.Core.Path.{_≡_};
 ghost use mathlib.Core.Bool.{cond};
 ghost use Prim.Native.Nat.{_≤_, _<_};
@@ -27,6 +28,7 @@ ghost use Rattle.machine.specs.Table.{header, right, firstFree, lastFree, table
 ghost use Rattle.machine.specs.Queue.{slots, appended};
 ghost use Rattle.machine.specs.Calls.{car, cdr, cons, setLeft, setRight, up, down, written};
 ghost use Rattle.queue.specs.Sums.{packetOf};
+ghost use Rattle.calls.specs.Early.{wordsNumber, cellNumber};
 ghost use Rattle.calls.specs.Called.{readCall, replaceCall, ReplaceKind, RowCalled, FreshCalled};
 
 // A row call's answer beside the queue.
@@ -85,16 +87,25 @@ fn done(queue: Queue, value: u16, packet: Packet) -> RowReply
     }
 }
 
-// A read of x through field k.
-fn read(table: &[u16], queue: Queue, k: usize, x: u16) -> RowReply
-    requires { ⌜ k ≤ right ⌝ }
+// A read of x through field k, once questions 1 to 5 have said "yes".
+fn read_cell(table: &[u16], queue: Queue, k: usize, x: u16) -> RowReply
+    requires { ⌜ (k ≤ right) × (cellNumber (now table) queue 1 x 0 ≡ 0) ⌝ }
     ensures { λ r. ⌜ RowCalled (now (table .entry)) queue (readCall k x) (r .answer) (now (table .entry)) (r .queue) ⌝ }
 {
-    let asked = read_refusal(table, queue, k, x);
+    let w = cells::field(table, (x as usize) - 1, k);
+    let asked = read_late(
+        table,
+        &queue.kinds,
+        &queue.a,
+        &queue.b,
+        queue.place,
+        queue.count,
+        x,
+        w,
+    );
     if let Asked::No(refusal) = asked {
         return refused(queue, refusal);
     }
-    let w = cells::field(table, (x as usize) - 1, k);
     let packet = Packet {
         kind: Packet::READ,
         a: x,
@@ -107,13 +118,21 @@ fn read(table: &[u16], queue: Queue, k: usize, x: u16) -> RowReply
 pub fn car(table: &[u16], queue: Queue, x: u16) -> RowReply
     ensures { λ r. ⌜ RowCalled (now (table .entry)) queue (car x) (r .answer) (now (table .entry)) (r .queue) ⌝ }
 {
-    read(table, queue, cells::LEFT, x)
+    let asked = cell_asked(table, queue.place, queue.count, 1, x, 0);
+    match asked {
+        Asked::Yes => read_cell(table, queue, cells::LEFT, x),
+        Asked::No(refusal) => refused(queue, refusal),
+    }
 }
 
 pub fn cdr(table: &[u16], queue: Queue, x: u16) -> RowReply
     ensures { λ r. ⌜ RowCalled (now (table .entry)) queue (cdr x) (r .answer) (now (table .entry)) (r .queue) ⌝ }
 {
-    read(table, queue, cells::RIGHT, x)
+    let asked = cell_asked(table, queue.place, queue.count, 1, x, 0);
+    match asked {
+        Asked::Yes => read_cell(table, queue, cells::RIGHT, x),
+        Asked::No(refusal) => refused(queue, refusal),
+    }
 }
 
 // The last free end once the first free cell, whose next one is given, is taken.
@@ -139,10 +158,21 @@ fn take_first(table: &mut [u16], first: u16, x: u16, y: u16)
     cells::set_new(table, index, x, y);
 }
 
-pub fn cons(table: &mut [u16], queue: Queue, x: u16, y: u16) -> RowReply
+// A cons, once questions 1 to 5 have said "yes".
+fn cons_words(table: &mut [u16], queue: Queue, x: u16, y: u16) -> RowReply
+    requires { ⌜ wordsNumber (now table) queue 1 x y ≡ 0 ⌝ }
     ensures { λ r. ⌜ RowCalled (now (table .entry)) queue (cons x y) (r .answer) (now (table .exit)) (r .queue) ⌝ }
 {
-    let asked = cons_refusal(table, queue, x, y);
+    let asked = cons_late(
+        table,
+        &queue.kinds,
+        &queue.a,
+        &queue.b,
+        queue.place,
+        queue.count,
+        x,
+        y,
+    );
     if let Asked::No(refusal) = asked {
         return refused(queue, refusal);
     }
@@ -157,6 +187,16 @@ pub fn cons(table: &mut [u16], queue: Queue, x: u16, y: u16) -> RowReply
     done(queue, first, packet)
 }
 
+pub fn cons(table: &mut [u16], queue: Queue, x: u16, y: u16) -> RowReply
+    ensures { λ r. ⌜ RowCalled (now (table .entry)) queue (cons x y) (r .answer) (now (table .exit)) (r .queue) ⌝ }
+{
+    let asked = words_asked(table, queue.place, queue.count, 1, x, y);
+    match asked {
+        Asked::Yes => cons_words(table, queue, x, y),
+        Asked::No(refusal) => refused(queue, refusal),
+    }
+}
+
 // The kind of a replace, by the field replaced.
 fn replace_kind(k: usize) -> u16
     requires { ⌜ k ≤ right ⌝ }
@@ -168,17 +208,27 @@ fn replace_kind(k: usize) -> u16
     Packet::REPLACE_RIGHT
 }
 
-// A replace of field k of x by y.
-fn replace(table: &mut [u16], queue: Queue, k: usize, x: u16, y: u16) -> RowReply
-    requires { ⌜ k ≤ right ⌝ }
+// A replace of field k of x by y, once questions 1 to 5 have said "yes".
+fn replace_in_cell(table: &mut [u16], queue: Queue, k: usize, x: u16, y: u16) -> RowReply
+    requires { ⌜ (k ≤ right) × (cellNumber (now table) queue 1 x y ≡ 0) ⌝ }
     ensures { λ r. ⌜ RowCalled (now (table .entry)) queue (replaceCall k x y) (r .answer) (now (table .exit)) (r .queue) ⌝ }
 {
-    let asked = replace_refusal(table, queue, k, x, y);
+    let index = (x as usize) - 1;
+    let d = cells::field(table, index, k);
+    let asked = replace_late(
+        table,
+        &queue.kinds,
+        &queue.a,
+        &queue.b,
+        queue.place,
+        queue.count,
+        y,
+        d,
+        x,
+    );
     if let Asked::No(refusal) = asked {
         return refused(queue, refusal);
     }
-    let index = (x as usize) - 1;
-    let d = cells::field(table, index, k);
     cells::set_field(table, index, k, y);
     let packet = Packet {
         kind: replace_kind(k),
@@ -192,19 +242,38 @@ fn replace(table: &mut [u16], queue: Queue, k: usize, x: u16, y: u16) -> RowRepl
 pub fn set_left(table: &mut [u16], queue: Queue, x: u16, y: u16) -> RowReply
     ensures { λ r. ⌜ RowCalled (now (table .entry)) queue (setLeft x y) (r .answer) (now (table .exit)) (r .queue) ⌝ }
 {
-    replace(table, queue, cells::LEFT, x, y)
+    let asked = cell_asked(table, queue.place, queue.count, 1, x, y);
+    match asked {
+        Asked::Yes => replace_in_cell(table, queue, cells::LEFT, x, y),
+        Asked::No(refusal) => refused(queue, refusal),
+    }
 }
 
 pub fn set_right(table: &mut [u16], queue: Queue, x: u16, y: u16) -> RowReply
     ensures { λ r. ⌜ RowCalled (now (table .entry)) queue (setRight x y) (r .answer) (now (table .exit)) (r .queue) ⌝ }
 {
-    replace(table, queue, cells::RIGHT, x, y)
+    let asked = cell_asked(table, queue.place, queue.count, 1, x, y);
+    match asked {
+        Asked::Yes => replace_in_cell(table, queue, cells::RIGHT, x, y),
+        Asked::No(refusal) => refused(queue, refusal),
+    }
 }
 
-pub fn up(table: &[u16], queue: Queue, x: u16, n: u16) -> RowReply
+// An up, once questions 1 to 5 have said "yes".
+fn up_cell(table: &[u16], queue: Queue, x: u16, n: u16) -> RowReply
+    requires { ⌜ cellNumber (now table) queue n x 0 ≡ 0 ⌝ }
     ensures { λ r. ⌜ RowCalled (now (table .entry)) queue (up x n) (r .answer) (now (table .entry)) (r .queue) ⌝ }
 {
-    let asked = up_refusal(table, queue, x, n);
+    let asked = up_late(
+        table,
+        &queue.kinds,
+        &queue.a,
+        &queue.b,
+        queue.place,
+        queue.count,
+        x,
+        n,
+    );
     if let Asked::No(refusal) = asked {
         return refused(queue, refusal);
     }
@@ -217,10 +286,31 @@ pub fn up(table: &[u16], queue: Queue, x: u16, n: u16) -> RowReply
     done(queue, 0, packet)
 }
 
-pub fn down(table: &[u16], queue: Queue, x: u16, n: u16) -> RowReply
+pub fn up(table: &[u16], queue: Queue, x: u16, n: u16) -> RowReply
+    ensures { λ r. ⌜ RowCalled (now (table .entry)) queue (up x n) (r .answer) (now (table .entry)) (r .queue) ⌝ }
+{
+    let asked = cell_asked(table, queue.place, queue.count, n, x, 0);
+    match asked {
+        Asked::Yes => up_cell(table, queue, x, n),
+        Asked::No(refusal) => refused(queue, refusal),
+    }
+}
+
+// A down, once questions 1 to 5 have said "yes".
+fn down_cell(table: &[u16], queue: Queue, x: u16, n: u16) -> RowReply
+    requires { ⌜ cellNumber (now table) queue n x 0 ≡ 0 ⌝ }
     ensures { λ r. ⌜ RowCalled (now (table .entry)) queue (down x n) (r .answer) (now (table .entry)) (r .queue) ⌝ }
 {
-    let asked = down_refusal(table, queue, x, n);
+    let asked = down_late(
+        table,
+        &queue.kinds,
+        &queue.a,
+        &queue.b,
+        queue.place,
+        queue.count,
+        x,
+        n,
+    );
     if let Asked::No(refusal) = asked {
         return refused(queue, refusal);
     }
@@ -231,4 +321,14 @@ pub fn down(table: &[u16], queue: Queue, x: u16, n: u16) -> RowReply
         c: 0,
     };
     done(queue, 0, packet)
+}
+
+pub fn down(table: &[u16], queue: Queue, x: u16, n: u16) -> RowReply
+    ensures { λ r. ⌜ RowCalled (now (table .entry)) queue (down x n) (r .answer) (now (table .entry)) (r .queue) ⌝ }
+{
+    let asked = cell_asked(table, queue.place, queue.count, n, x, 0);
+    match asked {
+        Asked::Yes => down_cell(table, queue, x, n),
+        Asked::No(refusal) => refused(queue, refusal),
+    }
 }

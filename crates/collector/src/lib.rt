@@ -59,7 +59,7 @@ fn apply_oldest(table: &mut [u16], queue: Queue, scratch: &mut [u16]) -> Stepped
 pub fn step(table: &mut [u16], queue: Queue, scratch: &mut [u16]) -> Stepped
     ensures { λ r. ⌜ Steps (now (table .entry)) queue (now (scratch .entry)) r (now (table .exit)) (now (scratch .exit)) ⌝ }
 {
-    let asked = questions::lent(table, queue, scratch);
+    let asked = questions::lent(table, queue.place, queue.count, scratch);
     match asked {
         Asked::Yes => {
             let count = queue.count;

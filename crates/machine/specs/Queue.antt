@@ -28,6 +28,13 @@ packet k a b c = record { kind = k; a = a; b = b; c = c }
 abbrev pub zeroPacket : Packet
 zeroPacket = packet 0 0 0 0
 
+-- the queue of these arrays at this place and count, and the queue q at another place and count
+abbrev pub queueOf : List ℕ → List ℕ → List ℕ → List ℕ → ℕ → ℕ → Queue
+queueOf kinds a b c place count = record { kinds = kinds; a = a; b = b; c = c; place = place; count = count }
+
+abbrev pub placed : Queue → ℕ → ℕ → Queue
+placed q place count = queueOf (q .kinds) (q .a) (q .b) (q .c) place count
+
 abbrev pub emptyQueue : Queue
 emptyQueue = record {
   kinds = replicate slots 0;

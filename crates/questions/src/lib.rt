@@ -1,5 +1,5 @@
 // What the questions ask that have an answer on every store: of words and numbers, of the queue, and questions 1 and 2, which calls, collector and
-// audit ask before anything else.
+// audit ask before anything else. Of the queue they look at its place and count alone.
 use machine::Asked;
 use machine::FIRST_ATOM;
 use machine::MOST_CELLS;
@@ -10,7 +10,9 @@ ghost use mathlib.Core.Path.{_≡_};
 ghost use Prim.Native.Nat.{_≤_};
 ghost use lib.ListN.{length};
 ghost use Rattle.machine.specs.Words.{isCell, isLegal};
+ghost use Rattle.machine.specs.declared.Queue.{Queue};
 ghost use Rattle.machine.specs.Table.{header};
+ghost use Rattle.machine.specs.Queue.{placed};
 ghost use Rattle.machine.specs.Calls.{step, store};
 ghost use Rattle.machine.specs.Questions.{firstNo, early, inRange, longEnough, scratchEnough, cellsInRange, numberInRange, slotEmpty};
 ghost use Rattle.machine.specs.Answers.{askedNumber};
@@ -58,10 +60,10 @@ pub fn cells_in_range(c: u16) -> bool
 }
 
 // Question 7.
-pub fn slot_empty(queue: Queue) -> bool
-    ensures { λ r. ⌜ r ≡ slotEmpty queue ⌝ }
+pub fn slot_empty(count: u16) -> bool
+    ensures { λ r. ⌜ ((q : Queue) → r ≡ slotEmpty (placed q (q .place) count)) ⌝ }
 {
-    queue.count < Queue::SLOTS
+    count < Queue::SLOTS
 }
 
 // Question 1 of a fresh.
@@ -72,8 +74,8 @@ pub fn long_enough(c: u16, table: &[u16]) -> bool
 }
 
 // Question 1: C, both free ends, the queue's place and count are within range, and the table has the words for its cells.
-pub fn in_range(table: &[u16], queue: Queue) -> bool
-    ensures { λ r. ⌜ r ≡ inRange (now (table .entry)) queue ⌝ }
+pub fn in_range(table: &[u16], place: u16, count: u16) -> bool
+    ensures { λ r. ⌜ ((q : Queue) → r ≡ inRange (now (table .entry)) (placed q place count)) ⌝ }
 {
     if table.len() < cells::words_for(1) {
         return false;
@@ -91,11 +93,9 @@ pub fn in_range(table: &[u16], queue: Queue) -> bool
     if c < cells::last_free(table) {
         return false;
     }
-    let place = queue.place;
     if Queue::SLOTS <= place {
         return false;
     }
-    let count = queue.count;
     if Queue::SLOTS < count {
         return false;
     }
@@ -111,10 +111,10 @@ pub fn scratch_enough(table: &[u16], scratch: &[u16]) -> bool
 }
 
 // Questions 1 and 2, of a step and an audit.
-pub fn lent(table: &[u16], queue: Queue, scratch: &[u16]) -> Asked
-    ensures { λ r. ⌜ askedNumber r ≡ firstNo (early (store (now (table .entry)) queue (now (scratch .entry))) step) ⌝ }
+pub fn lent(table: &[u16], place: u16, count: u16, scratch: &[u16]) -> Asked
+    ensures { λ r. ⌜ ((q : Queue) → askedNumber r ≡ firstNo (early (store (now (table .entry)) (placed q place count) (now (scratch .entry))) step)) ⌝ }
 {
-    if in_range(table, queue) {
+    if in_range(table, place, count) {
         if scratch_enough(table, scratch) {
             return Asked::Yes;
         }

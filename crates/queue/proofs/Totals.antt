@@ -1,12 +1,14 @@
 -- One packet's changes, by its kind; and the sums over packets, one packet at a time.
 use mathlib.Core.Path.{_≡_, refl, sym, ap, _∙_}
+use mathlib.Core.Bool.{Bool, true, false, cond}
 use Prim.Native.Nat.{ℕ, zero, _+_, _%_, _≤_}
 use native.Mathlib.Omega.{arith}
 use native.Mathlib.Numerals.{add-one}
 use borrow.Author.Tests.{ne-eqb}
 use Rattle.machine.specs.declared.Queue.{Queue}
 use Rattle.machine.specs.Queue.{Packet, slots, slot, packetsFrom}
-use Rattle.machine.specs.Packets.{Counter, root, cell, Direction, plus, minus, Kind, unknown, kindOf, changesOf, changes, movedBy, waitingChange}
+use Rattle.machine.specs.Packets.{Counter, root, cell, Direction, plus, minus, Kind, reads, makes, replaces, raises, lowers, unknown, kindOf, changesOf, changes, movedBy, waitingChange}
+use Rattle.machine.proofs.Range.{matching-other}
 use Rattle.machine.proofs.Ring.{packets-snoc}
 use Rattle.machine.proofs.Lists.{waiting-snoc}
 use Rattle.machine.specs.Words.{largestWord}
@@ -43,6 +45,30 @@ module _ (s s′ : Sums) (kind a b x : ℕ) (k : Kind) where
       pointers = counter-few cell a b x k (s .pointers .raised) (s .pointers .lowered) (s′ .pointers .raised) (s′ .pointers .lowered) p g n (t .pointers);
     };
   }
+
+-- a packet that has x neither in a nor in b changes no count of it
+cond-zero : (t : Bool) → _≡_ {A = ℕ} (cond t 0 0) 0
+cond-zero true = refl
+cond-zero false = refl
+
+module _ (a b x : ℕ) (da : a ≡ x → ⊥) (db : b ≡ x → ⊥) where
+  none-moved : (k : Kind) (c : Counter) (d : Direction) → movedBy c d x (changesOf k a b) ≡ 0
+  unfolding movedBy changesOf
+  none-moved reads c d = simp (matching-other a x 1 da, matching-other b x 1 db, cond-zero)
+  none-moved makes c d = simp (matching-other a x 1 da, matching-other b x 1 db, cond-zero)
+  none-moved (replaces field) c d = simp (matching-other a x 1 da, matching-other b x 1 db, cond-zero)
+  none-moved raises c d = simp (matching-other a x b da, cond-zero)
+  none-moved lowers c d = simp (matching-other a x b da, cond-zero)
+  none-moved unknown c d = refl
+
+  pub none-added : (s : Sums) (kind : ℕ) → Added s kind a b x s
+  none-added s kind =
+      let none = none-moved (kindOf kind) in
+      let held-raised = none root plus in
+      let held-lowered = none root minus in
+      let raised = none cell plus in
+      let lowered = none cell minus in
+      added s s kind a b x (kindOf kind) refl (omega arith, omega arith) (omega arith, omega arith) (omega arith, omega arith) (omega arith, omega arith)
 
 -- a number that is no kind
 pub kind-unknown : (k : ℕ) → (k ≡ 1 → ⊥) → (k ≡ 2 → ⊥) → (k ≡ 3 → ⊥) → (k ≡ 4 → ⊥) → (k ≡ 5 → ⊥) → (k ≡ 6 → ⊥) → kindOf k ≡ unknown

@@ -3,9 +3,10 @@ use machine::CellCount;
 use machine::Queue;
 use machine::RootCount;
 ghost use mathlib.Core.Path.{_≡_};
-ghost use Prim.Native.Nat.{suc, _+_, _%_, _<_, _≤_};
+ghost use mathlib.Core.List.{List};
+ghost use Prim.Native.Nat.{ℕ, suc, _+_, _%_, _<_, _≤_};
 ghost use Rattle.machine.specs.Range.{matching};
-ghost use Rattle.machine.specs.Queue.{packet, slots, slot, appended, taken, waiting};
+ghost use Rattle.machine.specs.Queue.{packet, slots, queueOf, slot, appended, taken, waiting};
 ghost use Rattle.machine.specs.Words.{largestWord};
 ghost use Rattle.queue.specs.Sums.{packetOf, AtMost, WithCount, atLeast, atMostCeiling, Bounded, Added, SumsOf};
 
@@ -165,11 +166,16 @@ pub fn matched(w: u16, x: u16, n: u16) -> u32
     0
 }
 
-// The sums with one packet's changes of x added.
+// The sums with one packet's changes of x added; a packet that has x neither in a nor in b changes no count of it, whatever its kind.
 fn with_changes(s: Sums, kind: u16, a: u16, b: u16, x: u16) -> Sums
     requires { ⌜ Bounded 63 s ⌝ }
     ensures { λ r. ⌜ Added s kind a b x r ⌝ }
 {
+    if a != x {
+        if b != x {
+            return s;
+        }
+    }
     let mut held = s.held;
     let mut pointers = s.pointers;
     match kind {
@@ -198,14 +204,19 @@ fn with_changes(s: Sums, kind: u16, a: u16, b: u16, x: u16) -> Sums
     }
 }
 
-// The waiting changes of x, over the waiting slots only.
-pub fn waiting_changes(queue: Queue, x: u16) -> Sums
-    requires { ⌜ (queue .place < slots) × (queue .count ≤ slots) ⌝ }
-    ensures { λ r. ⌜ SumsOf (waiting queue) x r ⌝ }
+// The waiting changes of x, over the waiting slots only, by the queue's arrays of kinds, a and b: the words c play no part, whatever they are.
+pub fn waiting_changes<'q>(
+    kinds: &'q [u16; 64],
+    a: &'q [u16; 64],
+    b: &'q [u16; 64],
+    place: u16,
+    count: u16,
+    x: u16,
+) -> Sums
+    requires { ⌜ (place < slots) × (count ≤ slots) ⌝ }
+    ensures { λ r. ⌜ ((c : List ℕ) → SumsOf (waiting (queueOf (now (kinds .entry)) (now (a .entry)) (now (b .entry)) c place count)) x r) ⌝ }
     ensures { λ r. ⌜ Bounded slots r ⌝ }
 {
-    let place = queue.place;
-    let count = queue.count;
     let mut s = Sums {
         held: HeldSums {
             raised: 0,
@@ -219,7 +230,7 @@ pub fn waiting_changes(queue: Queue, x: u16) -> Sums
     let mut i: u16 = 0;
     while i < count {
         let j = slot_after(place, i);
-        s = with_changes(s, queue.kinds[j], queue.a[j], queue.b[j], x);
+        s = with_changes(s, kinds[j], a[j], b[j], x);
         i += 1;
     }
     s

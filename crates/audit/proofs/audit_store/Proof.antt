@@ -17,7 +17,7 @@ judge-requires c κs =
     let at-told = c .before in
     let at-lent = at-told .before .before in
     let i = at-lent .before .before .before .before .args in
-    let yes = says-yes (i .table .now) (i .queue) (i .scratch .now) _ (at-lent .lent .ensures) (at-told .enum-told .given .1) in
+    let yes = says-yes (i .table .now) (i .queue) (i .scratch .now) _ (at-lent .lent .ensures (i .queue)) (at-told .enum-told .given .1) in
     asked-lent (i .table .now) (i .queue) (i .scratch .now) yes
 
 capacity-of-requires : tie.Need-capacity-of-requires
@@ -25,7 +25,7 @@ capacity-of-requires c κs =
     let at-told = c .before .before .before .before .before in
     let at-lent = at-told .before .before in
     let i = at-lent .before .before .before .before .args in
-    let yes = says-yes (i .table .now) (i .queue) (i .scratch .now) _ (at-lent .lent .ensures) (at-told .enum-told .given .1) in
+    let yes = says-yes (i .table .now) (i .queue) (i .scratch .now) _ (at-lent .lent .ensures (i .queue)) (at-told .enum-told .given .1) in
     let shape = asked-lent (i .table .now) (i .queue) (i .scratch .now) yes .shape .table in
     omega (arith, shape .room)
 
@@ -35,7 +35,7 @@ clear-requires c κs =
     let at-told = at-judge .before .before in
     let at-lent = at-told .before .before in
     let i = at-lent .before .before .before .before .args in
-    let yes = says-yes (i .table .now) (i .queue) (i .scratch .now) _ (at-lent .lent .ensures) (at-told .enum-told .given .1) in
+    let yes = says-yes (i .table .now) (i .queue) (i .scratch .now) _ (at-lent .lent .ensures (i .queue)) (at-told .enum-told .given .1) in
     let lent = asked-lent (i .table .now) (i .queue) (i .scratch .now) yes in
     let enough = scratch-of _ _ (i .table .now) (c .capacity-of .ensures) (lent .scratch) in
     omega (arith, at-judge .judge .kept .1 .1 .0)
@@ -54,7 +54,7 @@ returns c =
     let at-told = at-judge .before .before in
     let at-lent = at-told .before .before in
     let i = at-lent .before .before .before .before .args in
-    let yes = says-yes (i .table .now) (i .queue) (i .scratch .now) _ (at-lent .lent .ensures) (at-told .enum-told .given .1) in
+    let yes = says-yes (i .table .now) (i .queue) (i .scratch .now) _ (at-lent .lent .ensures (i .queue)) (at-told .enum-told .given .1) in
     audited-judged (i .table .now) (i .queue) (i .scratch .now) yes _ _ _ _ (at-judge .judge .ensures) (at-capacity .capacity-of .ensures)
     (at-clear .clear .ensures)
 
@@ -68,7 +68,7 @@ returns-2 c =
     let i = at-lent .before .before .before .before .args in
     let no = at-asked .asked .given in
     audited-refused (i .table .now) (i .queue) (i .scratch .now) (no .0 .0)
-    (says-no (i .table .now) (i .queue) (i .scratch .now) _ (no .0 .0) (at-lent .lent .ensures) (no .1))
+    (says-no (i .table .now) (i .queue) (i .scratch .now) _ (no .0 .0) (at-lent .lent .ensures (i .queue)) (no .1))
 
 pub audit-store-spec : {M : Type 1} → statement M
 audit-store-spec =

@@ -24,7 +24,7 @@ returns c =
     let at-lent = at-told .before .before in
     let s = at-lent .before .before .before .before .before in
     idles (s .args .table .now) (s .args .queue) (s .args .scratch .now)
-    (says-yes (s .args .table .now) (s .args .queue) (s .args .scratch .now) _ (at-lent .lent .ensures) (at-told .enum-told .given .1))
+    (says-yes (s .args .table .now) (s .args .queue) (s .args .scratch .now) _ (at-lent .lent .ensures (s .args .queue)) (at-told .enum-told .given .1))
     (c .if1 .taken) _ refl refl
 
 apply-oldest-requires : tie.Need-apply-oldest-requires
@@ -33,7 +33,7 @@ apply-oldest-requires c κs =
     let at-lent = at-told .before .before in
     let s = at-lent .before .before .before .before .before in (
       asked-lent (s .args .table .now) (s .args .queue) (s .args .scratch .now)
-          (says-yes (s .args .table .now) (s .args .queue) (s .args .scratch .now) _ (at-lent .lent .ensures) (at-told .enum-told .given .1)),
+          (says-yes (s .args .table .now) (s .args .queue) (s .args .scratch .now) _ (at-lent .lent .ensures (s .args .queue)) (at-told .enum-told .given .1)),
       omega arith,
     )
 
@@ -53,7 +53,7 @@ returns-2 c =
     let at-lent = at-told .before .before in
     let s = at-lent .before .before .before .before .before in
     applies (s .args .table .now) (s .args .queue) (s .args .scratch .now)
-    (says-yes (s .args .table .now) (s .args .queue) (s .args .scratch .now) _ (at-lent .lent .ensures) (at-told .enum-told .given .1))
+    (says-yes (s .args .table .now) (s .args .queue) (s .args .scratch .now) _ (at-lent .lent .ensures (s .args .queue)) (at-told .enum-told .given .1))
     (omega arith) _ _ _ (at-apply-oldest .apply-oldest .ensures)
 
 same-length-5 : tie.Need-same-length-5
@@ -68,7 +68,7 @@ returns-3 c =
     let at-lent = at-asked .before .before in
     let s = at-lent .before .before .before .before .before in
     refuses (s .args .table .now) (s .args .queue) (s .args .scratch .now) (at-asked .asked .given .0 .0)
-    (says-no (s .args .table .now) (s .args .queue) (s .args .scratch .now) _ (at-asked .asked .given .0 .0) (at-lent .lent .ensures)
+    (says-no (s .args .table .now) (s .args .queue) (s .args .scratch .now) _ (at-asked .asked .given .0 .0) (at-lent .lent .ensures (s .args .queue))
     (at-asked .asked .given .1)) _ refl refl
 
 pub step-spec : {M : Type 1} → statement M

@@ -5,7 +5,7 @@ use Rattle.questions.proofs.slot_empty.Tie as tie
 
 returns : tie.Need-returns
 unfolding slotEmpty
-returns c = search needs
+returns c q = search needs
 
 pub slot-empty-spec : {M : Type 1} → statement M
 slot-empty-spec = tie.close (tie.spec returns)

@@ -1,5 +1,6 @@
 use mathlib.Core.Path.{sym, _∙_}
 use borrow.Author.Needs.{needs}
+use Rattle.machine.specs.Queue.{queueOf}
 use Rattle.calls.proofs.LateLaws.{read-late}
 use Rattle.calls.proofs.late.read_late.Statement.{statement}
 use Rattle.calls.proofs.late.read_late.Tie as tie
@@ -17,15 +18,16 @@ read-tests-requires : tie.Need-read-tests-requires
 read-tests-requires c κs = search needs
 
 returns : tie.Need-returns
-returns c =
+returns c w =
     let at-same = c .before in
     let at-w = at-same .before in
     let at-x = at-w .before in
     let start = at-x .before .before in
     let i = start .args in
-    c .read-tests .ensures
-    ∙ sym (read-late (i .table .now) (i .queue) (i .x) (i .w) (at-x .tally-of .result) (at-w .tally-of2 .result) (at-same .matched .result)
-    (start .pre .1) (at-x .tally-of .ensures .0) (at-w .tally-of2 .ensures .0) (at-same .matched .ensures .0))
+    let q = queueOf (i .kinds .now) (i .a .now) (i .b .now) w (i .place) (i .count) in
+    c .read-tests .ensures q
+    ∙ sym (read-late (i .table .now) q (i .x) (i .w) (at-x .tally-of .result) (at-w .tally-of2 .result) (at-same .matched .result)
+    (start .pre .3) (at-x .tally-of .ensures .0 w) (at-w .tally-of2 .ensures .0 w) (at-same .matched .ensures .0))
 
 pub read-late-spec : {M : Type 1} → statement M
 read-late-spec =

@@ -10,14 +10,14 @@ at-least-requires : tie.Need-at-least-requires
 at-least-requires c κs = search needs
 
 returns : tie.Need-returns
-returns c =
+returns c q =
     rw (no (c .before .at-least .ensures) (c .if1 .taken))
 
 at-least-requires-2 : tie.Need-at-least-requires-2
 at-least-requires-2 c κs = search needs
 
 returns-2 : tie.Need-returns-2
-returns-2 c =
+returns-2 c q =
     let at-held-y = c .before .before in
     let held-y = yes (at-held-y .before .at-least .ensures) (at-held-y .if1 .left) in
     rw (held-y, no (c .before .at-least2 .ensures) (c .if2 .taken))
@@ -26,34 +26,34 @@ slot-empty-requires : tie.Need-slot-empty-requires
 slot-empty-requires c κs = search needs
 
 returns-3 : tie.Need-returns-3
-returns-3 c =
+returns-3 c q =
     let at-held-x = c .before .before in
     let at-held-y = at-held-x .before .before in
     let held-y = yes (at-held-y .before .at-least .ensures) (at-held-y .if1 .left) in
     let held-x = yes (at-held-x .before .at-least2 .ensures) (at-held-x .if2 .left) in
-    rw (held-y, held-x, no (c .before .slot-empty .ensures) (c .if3 .taken))
+    rw (held-y, held-x, no (c .before .slot-empty .ensures q) (c .if3 .taken))
 
 within-requires : tie.Need-within-requires
 within-requires c κs = search needs
 
 returns-4 : tie.Need-returns-4
-returns-4 c =
+returns-4 c q =
     let at-slot = c .before .before in
     let at-held-x = at-slot .before .before in
     let at-held-y = at-held-x .before .before in
     let held-y = yes (at-held-y .before .at-least .ensures) (at-held-y .if1 .left) in
     let held-x = yes (at-held-x .before .at-least2 .ensures) (at-held-x .if2 .left) in
-    let slot = yes (at-slot .before .slot-empty .ensures) (at-slot .if3 .left) in
+    let slot = yes (at-slot .before .slot-empty .ensures q) (at-slot .if3 .left) in
     rw (held-y, held-x, slot, no (c .before .within .ensures) (c .if4 .taken))
 
 returns-5 : tie.Need-returns-5
-returns-5 c =
+returns-5 c q =
     let at-slot = c .before .before in
     let at-held-x = at-slot .before .before in
     let at-held-y = at-held-x .before .before in
     let held-y = yes (at-held-y .before .at-least .ensures) (at-held-y .if1 .left) in
     let held-x = yes (at-held-x .before .at-least2 .ensures) (at-held-x .if2 .left) in
-    let slot = yes (at-slot .before .slot-empty .ensures) (at-slot .if3 .left) in
+    let slot = yes (at-slot .before .slot-empty .ensures q) (at-slot .if3 .left) in
     let after = yes (c .before .within .ensures) (c .if4 .left) in
     rw (held-y, held-x, slot, after)
 

@@ -1,0 +1,79 @@
+use mathlib.Core.Path.{_≡_}
+use borrow.Author.Needs.{needs}
+use Rattle.machine.specs.Queue.{packet}
+use Rattle.machine.specs.Calls.{down}
+use Rattle.machine.specs.Questions.{firstNo}
+use Rattle.machine.specs.Answers.{askedNumber}
+use Rattle.calls.specs.Tests.{codeQuestions}
+use Rattle.calls.proofs.EarlyLaws.{Callable, callable}
+use Rattle.calls.proofs.CallLaws.{down-whole}
+use Rattle.calls.proofs.RowLaws.{row-refused, late-slot, down-done}
+use Rattle.calls.proofs.down_cell.Statement.{statement}
+use Rattle.calls.proofs.down_cell.Tie as tie
+
+-- the queue, whose arrays are lent, goes by the name t2
+abbrev start : tie.After-down-late → tie.Start
+start c = c .before .before .before .before .before .before
+
+-- what the early questions' "yes" leaves
+accepted : (c : tie.Start) → Callable (c .args .table .now) (c .args .t2) (c .args .n) (c .args .x)
+accepted c = let i = c .args in callable (i .table .now) (i .t2) (i .n) (i .x) 0 (c .pre)
+
+down-late-requires : tie.Need-down-late-requires
+down-late-requires c κs =
+    let a = accepted (c .before .before .before .before .before) in (a .shape .table, a .shape .queue .place, a .shape .queue .count, a .cell, a .some)
+
+-- the late answer is the call's
+whole : (c : tie.After-down-late) → askedNumber (c .down-late .result) ≡ firstNo (codeQuestions (start c .args .table .now) (start c .args .t2) (down (start c .args .x) (start c .args .n)))
+whole c =
+    let s = start c in
+    let i = s .args in
+    down-whole (i .table .now) (i .t2) (i .x) (i .n) (c .down-late .result) (s .pre) (c .down-late .ensures (i .t2 .c))
+
+enum-known-asked : tie.Need-enum-known-asked
+enum-known-asked c = search needs
+
+refused-requires : tie.Need-refused-requires
+refused-requires c κs = search needs
+
+returns : tie.Need-returns
+returns c =
+    let at-no = c .before .before in
+    let at-late = at-no .before .before in
+    let i = start at-late .args in
+    let no = at-no .asked .given in
+    row-refused (i .table .now) (i .t2) (down (i .x) (i .n)) (at-late .down-late .result) (no .0 .0) (c .refused .result .answer) (c .refused .result .queue)
+    (whole at-late) (no .1) (c .refused .ensures .0) (c .refused .ensures .1)
+
+enum-told : tie.Need-enum-told
+enum-told c = search needs
+
+done-requires : tie.Need-done-requires
+done-requires c κs =
+    let at-late = c .before .before in
+    let s = start at-late in
+    let i = s .args in
+    let late = at-late .down-late in (
+      accepted s .shape .queue .place,
+      late-slot (i .table .now) (i .t2) (late .result) (c .enum-told .given .1) (packet 5 (i .x) (i .n) 0) (late .ensures (i .t2 .c)),
+    )
+
+returns-2 : tie.Need-returns-2
+returns-2 c =
+    let at-told = c .before in
+    let at-late = at-told .before .before in
+    let i = start at-late .args in
+    down-done (i .table .now) (i .t2) (at-late .down-late .result) (at-told .enum-told .given .1) (c .done .result .answer) (c .done .result .queue)
+    (i .x) (i .n) (whole at-late) (c .done .ensures .0) (c .done .ensures .1)
+
+pub down-cell-spec : {M : Type 1} → statement M
+down-cell-spec =
+    tie.close
+    (tie.spec
+    down-late-requires
+    enum-known-asked
+    refused-requires
+    returns
+    enum-told
+    done-requires
+    returns-2)
