@@ -1,7 +1,7 @@
 -- What a writer into a lent buffer does, and the text of a number that is counted up.
 use mathlib.Core.Path.{_≡_}
 use mathlib.Core.List.{List, [], _∷_, _++_}
-use Prim.Native.Nat.{ℕ, _+_, _≤_}
+use Prim.Native.Nat.{ℕ, _+_, _^_, _≤_, _<_}
 use lib.ListN.{length, take}
 use Rattle.line_text.specs.declared.Verdict.{Verdict}
 use Rattle.line_text.specs.Bytes.{lineFeed, space}
@@ -21,6 +21,12 @@ pub record Shows (text : List ℕ) (size number : ℕ) : Type 0 where
 -- a text that shows a number, or the one before it, comes to show it
 abbrev pub CountsUp : List ℕ → ℕ → ℕ → List ℕ → ℕ → Type 0
 CountsUp text size number new size′ = (shown : ℕ) → Shows text size shown → shown ≤ number → number ≤ shown + 1 → Shows new size′ number
+
+-- one more, unless the number stops: line numbers are below 2^64
+pub record Next (lines number : ℕ) : Type 0 where
+  pub least : lines ≤ number
+  pub most : number ≤ lines + 1
+  pub one : lines + 1 < 2 ^ 64 → number ≡ lines + 1
 
 -- an output line with these digits for its number
 abbrev pub numbered : List ℕ → Verdict → List ℕ

@@ -2,10 +2,10 @@
 use crate::Verdict;
 ghost use mathlib.Core.Path.{_≡_};
 ghost use mathlib.Core.List.{_++_};
-ghost use Prim.Native.Nat.{_+_, _^_, _≤_, _<_};
+ghost use Prim.Native.Nat.{_+_, _≤_, _<_};
 ghost use lib.ListN.{length, take};
 ghost use Rattle.line_text.specs.Texts.{digits, mostDigits, decimal, wordLength, verdictRoom, verdictText, room};
-ghost use Rattle.line_text.specs.Put.{Put, Shows, numbered, CountsUp};
+ghost use Rattle.line_text.specs.Put.{Put, Shows, CountsUp, Next, numbered};
 
 // No number here has more digits.
 pub const MOST_DIGITS: usize = 20;
@@ -119,7 +119,7 @@ pub fn count_up(text: &mut [u8; MOST_DIGITS], size: usize, number: u64) -> usize
 
 // No input has so many lines that the number stops.
 pub fn next_number(lines: u64) -> u64
-    ensures { λ r. ⌜ (lines ≤ r) × (r ≤ lines + 1) × (lines + 1 < 2 ^ 64 → r ≡ lines + 1) ⌝ }
+    ensures { λ r. ⌜ Next lines r ⌝ }
 {
     if lines < u64::MAX {
         return lines + 1;

@@ -1,19 +1,19 @@
 -- Lines one after the other, and the end of the input.
 use mathlib.Core.Path.{_≡_, refl, sym, ap, _∙_}
 use mathlib.Core.List.{List, [], _∷_, _++_}
-use Prim.Native.Nat.{ℕ, zero, suc, _+_, _-_, _^_, _≤_, _<_, min}
+use Prim.Native.Nat.{ℕ, zero, suc, _+_, _-_, _≤_, _<_, min}
 use native.Mathlib.Omega.{arith}
 use lib.ListN.{length, take, drop, length-drop, take-append-drop}
 use lib.Seq.{take-add, take-length}
 use Rattle.machine.specs.declared.Queue.{Queue}
-use Rattle.machine.specs.Calls.{Store, store}
+use Rattle.machine.specs.Calls.{store}
 use Rattle.line_text.specs.declared.Request.{Request}
 use Rattle.line_text.specs.declared.Verdict.{Verdict}
-use Rattle.line_text.specs.Bytes.{lineFeed, before, split, linesOf}
+use Rattle.line_text.specs.Bytes.{lineFeed, before, split}
 use Rattle.line_text.specs.Requests.{requestOf}
 use Rattle.line_text.specs.Kept.{keptBytes, Keeps}
 use Rattle.line_text.specs.Texts.{room, outputLine}
-use Rattle.line_text.specs.Put.{Put, Shows, numbered}
+use Rattle.line_text.specs.Put.{Put, Shows, Next, numbered}
 use Rattle.line_text.proofs.PutLaws.{output-length, shows-line}
 use Rattle.line_text.proofs.RequestLaws.{last-part}
 use Rattle.line_text.proofs.WordLaws.{append-none, before-most}
@@ -21,7 +21,7 @@ use Rattle.line_text.proofs.KeepLaws.{take-cap}
 use Rattle.session_lines.specs.declared.Session.{Session}
 use Rattle.session_lines.specs.Listing.{listed}
 use Rattle.session_lines.specs.Serving.{Good, Serves}
-use Rattle.session_lines.specs.Progress.{lastLine, onto, sessionOf, begunLine, ahead, Tells, FeedsLines, Finishes}
+use Rattle.session_lines.specs.Progress.{lastLine, sessionOf, begunLine, ahead, Tells, FeedsLines, Finishes}
 use Rattle.session_lines.proofs.TellsLaws.{line-tells, joined-tells, ended-tells, tells-both}
 
 -- How far the lines have come: the sizes stand, the number is shown, and what was taken gave what was written.
@@ -46,7 +46,7 @@ module _ (input : List ℕ) (taken : ℕ) {feed : ℕ} (found : feed ≡ taken +
       → feed < length input
       → request ≡ requestOf (begunLine s ++ take (feed - taken) (drop taken input))
       → (Good t (s .queue) → Serves (store t (s .queue) scratch) request v (store t′ queue scratch′))
-      → (s .lines ≤ lines) × (lines ≤ s .lines + 1) × (s .lines + 1 < 2 ^ 64 → lines ≡ s .lines + 1)
+      → Next (s .lines) lines
       → Shows number size lines
       → Put out written (numbered (take size number) v) new end
       → Tells s₀ t₀ scratch₀ (take (feed + 1) input) (take end new) (sessionOf line 0 lines queue) t′ scratch′
@@ -76,7 +76,7 @@ pub next-within : {out new number : List ℕ} {written end size lines : ℕ} (v 
 next-within {lines = lines} v h l shown put = omega (arith, put .ends, ap length (shows-line shown v), output-length lines v)
 
 -- with room for a line something is taken
-pub some-taken : (taken written size : ℕ) → (taken ≡ 0 → written ≡ 0) → size - written < room → room ≤ size → 0 < taken
+some-taken : (taken written size : ℕ) → (taken ≡ 0 → written ≡ 0) → size - written < room → room ≤ size → 0 < taken
 some-taken zero written size h l r = let w : written ≡ 0 = h refl in absurd (never w l r)
   where
     never : written ≡ 0 → size - written < room → room ≤ size → ⊥

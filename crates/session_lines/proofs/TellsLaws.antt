@@ -1,7 +1,7 @@
 -- What a whole line, a part of a line, and one part after the other tell.
 use mathlib.Core.Path.{_≡_, refl, sym, ap, _∙_}
 use mathlib.Core.List.{List, [], _∷_, _++_, append-assoc}
-use Prim.Native.Nat.{ℕ, suc, _+_, _^_, _≤_, _<_}
+use Prim.Native.Nat.{ℕ, _+_, _<_}
 use native.Mathlib.Numerals.{add-one}
 use native.Mathlib.Omega.{arith}
 use lib.ListN.{length, take, length-append}
@@ -14,6 +14,7 @@ use Rattle.session_lines.specs.declared.Session.{Session}
 use Rattle.line_text.specs.Bytes.{lineFeed, before, linesOf}
 use Rattle.line_text.specs.Requests.{requestOf}
 use Rattle.line_text.specs.Kept.{keptBytes, Keeps}
+use Rattle.line_text.specs.Put.{Next}
 use Rattle.line_text.specs.Texts.{outputLine}
 use Rattle.session_lines.specs.Listing.{served, listed}
 use Rattle.session_lines.specs.Serving.{Good, Serves}
@@ -24,15 +25,15 @@ use Rattle.session_lines.proofs.LineLaws.{onto-none, lines-joined, line
 pub line-tells : {line : List ℕ} {lines : ℕ} {s : Store} {request : Request} {v : Verdict} {s′ : Store} {number : ℕ}
     → request ≡ requestOf line
     → (Good (s .table) (s .queue) → Serves s request v s′)
-    → (lines ≤ number) × (number ≤ lines + 1) × (lines + 1 < 2 ^ 64 → number ≡ lines + 1)
+    → Next lines number
     → TellsLine line lines s (outputLine number v) number s′
 unfolding listed
 line-tells {lines = lines} er h en = record {
   good = λ g. h g .good;
-  counted = en .1;
+  counted = en .most;
   listing = λ g b rest.
       let e = h g in
-      rw (e .verdict, e .after, er, en .2 b, add-one lines);
+      rw (e .verdict, e .after, er, en .one b, add-one lines);
 }
 
 -- a part without a line feed joins the line

@@ -57,8 +57,8 @@ fn fed(
     }
 }
 
-// Each whole line is parsed where it lies, and what follows the last line feed is held. The queue is large, so that it is handed to the store
-// from here and goes into no other function; a line that asks for nothing leaves it where it is.
+// Each whole line is parsed where it lies, and what follows the last line feed is held. The queue is large and goes by value: so the loop's body
+// is no function of its own, and a line that asks for nothing leaves the queue where it is.
 pub fn serve_lines(
     session: Session,
     table: &mut [u16],

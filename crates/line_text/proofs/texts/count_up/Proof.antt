@@ -1,8 +1,5 @@
-use mathlib.Core.Path.{_≡_}
 use native.Mathlib.Omega.{arith}
-use lib.ListN.{length}
 use borrow.Author.Needs.{needs}
-use Rattle.line_text.specs.Texts.{mostDigits}
 use Rattle.line_text.proofs.PutLaws.{counts-up}
 use Rattle.line_text.proofs.texts.count_up.Statement.{statement}
 use Rattle.line_text.proofs.texts.count_up.Tie as tie

@@ -1,4 +1,4 @@
-use mathlib.Core.Path.{_≡_, refl, sym, ap, _∙_}
+use mathlib.Core.Path.{_≡_, refl, ap, _∙_}
 use mathlib.Core.Logic.{⊎-elim}
 use Prim.Native.Nat.{ℕ, _+_, _-_, _<_}
 use native.Mathlib.Omega.{arith}
@@ -34,7 +34,7 @@ now-shown c =
     let at-next-number = c .before .before in
     let l = at-next-number .before .before .before .before .before .before .loop in
     let en = at-next-number .next-number .ensures in
-    c .count-up .ensures (l .lines) (l .inv .shown) (en .0) (en .1)
+    c .count-up .ensures (l .lines) (l .inv .shown) (en .least) (en .most)
 
 -- by either way the request is answered
 answered :
