@@ -160,7 +160,7 @@ pointers-after t ps w s h p more less a b small =
     word-within cell 0 t ps w (s .pointers .raised) (s .pointers .lowered) (h .pointers) p more less a b (omega arith) small
 
 -- a read of x that gives w
-pub read-late : (t : List ℕ) (q : Queue) (x w : ℕ) (sx sw : Sums) (same : ℕ) → isCell (capacity t) x ≡ true → TallyOf t (waiting q) x sx
+read-late : (t : List ℕ) (q : Queue) (x w : ℕ) (sx sw : Sums) (same : ℕ) → isCell (capacity t) x ≡ true → TallyOf t (waiting q) x sx
     → TallyOf t (waiting q) w sw → same ≡ matching x w 1 → firstNo (codeLate t q (packet 1 x w 0)) ≡ readNumber q sx sw same
 unfolding codeLate firstNo freeByEnd kindOf raisedWithin raisedWords uses usesOf changes changesOf movedBy everyOf
 read-late t q x w sx sw same hx tx tw e =
@@ -168,6 +168,10 @@ read-late t q x w sx sw same hx tx tw e =
     let six = one-held t (waiting q) p x 1 (sx .held .raised) (sx .held .lowered) hx (tx .held) (λ y. refl) (omega arith) in
     let nine = held-after t (waiting q) w sw tw p 1 same (omega (arith, matching-same w w 1 refl)) (omega arith) (λ _. omega arith) in
     rw (six, nine, and-true (heldAfter sw 1 same))
+
+pub read-asked : (t : List ℕ) (q : Queue) (x w : ℕ) (sx sw : Sums) (same a : ℕ) → isCell (capacity t) x ≡ true → TallyOf t (waiting q) x sx
+    → TallyOf t (waiting q) w sw → same ≡ matching x w 1 → a ≡ readNumber q sx sw same → a ≡ firstNo (codeLate t q (packet 1 x w 0))
+read-asked t q x w sx sw same a hx tx tw e z = z ∙ sym (read-late t q x w sx sw same hx tx tw e)
 
 -- a cons of x and y
 cons-late : (t : List ℕ) (q : Queue) (x y z : ℕ) (sx sy : Sums) (same : ℕ) → TallyOf t (waiting q) x sx → TallyOf t (waiting q) y sy
@@ -208,7 +212,7 @@ replace-either t q y d x sy sx same kept a ty tx e g z kind =
     (λ h. z ∙ sym (replace-late t q kind right y d x sy sx same kept (ap kindOf h) ty tx e g))
 
 -- up and down of x by n
-pub up-late : (t : List ℕ) (q : Queue) (x n : ℕ) (s : Sums) → isCell (capacity t) x ≡ true → TallyOf t (waiting q) x s
+up-late : (t : List ℕ) (q : Queue) (x n : ℕ) (s : Sums) → isCell (capacity t) x ≡ true → TallyOf t (waiting q) x s
     → firstNo (codeLate t q (packet 4 x n 0)) ≡ upNumber q s n
 unfolding codeLate firstNo freeByEnd kindOf raisedWithin raisedWords uses usesOf changes changesOf movedBy everyOf
 up-late t q x n s hx h =
@@ -217,7 +221,15 @@ up-late t q x n s hx h =
     let nine = held-after t (waiting q) x s h p n 0 (omega (arith, matching-same x x n refl)) (omega arith) (λ f. absurd (not-both hx f)) in
     rw (six, nine, and-true (heldAfter s n 0))
 
-pub down-late : (t : List ℕ) (q : Queue) (x n : ℕ) (s : Sums) → isCell (capacity t) x ≡ true → 1 ≤ n → TallyOf t (waiting q) x s
+pub up-asked : (t : List ℕ) (q : Queue) (x n : ℕ) (s : Sums) (a : ℕ) → isCell (capacity t) x ≡ true → TallyOf t (waiting q) x s → a ≡ upNumber q s n
+    → a ≡ firstNo (codeLate t q (packet 4 x n 0))
+up-asked t q x n s a hx h z = z ∙ sym (up-late t q x n s hx h)
+
+down-late : (t : List ℕ) (q : Queue) (x n : ℕ) (s : Sums) → isCell (capacity t) x ≡ true → 1 ≤ n → TallyOf t (waiting q) x s
     → firstNo (codeLate t q (packet 5 x n 0)) ≡ downNumber q s n
 unfolding codeLate firstNo freeByEnd kindOf raisedWithin raisedWords uses usesOf changes changesOf everyOf
 down-late t q x n s hx l h = rw (one-held t (waiting q) (packet 5 x n 0) x n (s .held .raised) (s .held .lowered) hx (h .held) (λ y. refl) l)
+
+pub down-asked : (t : List ℕ) (q : Queue) (x n : ℕ) (s : Sums) (a : ℕ) → isCell (capacity t) x ≡ true → 1 ≤ n → TallyOf t (waiting q) x s → a ≡ downNumber q s n
+    → a ≡ firstNo (codeLate t q (packet 5 x n 0))
+down-asked t q x n s a hx l h z = z ∙ sym (down-late t q x n s hx l h)

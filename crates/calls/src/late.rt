@@ -1,10 +1,8 @@
-// Questions 6 to 10 as the code asks them, once questions 1 to 5 have said "yes".
+// Questions 6 to 10 as the code asks them of a call on two words, once questions 1 to 5 have said "yes".
 use crate::operands::tally_of;
 use crate::tests::cons_tests;
-use crate::tests::down_tests;
 use crate::tests::read_tests;
 use crate::tests::replace_tests;
-use crate::tests::up_tests;
 use machine::Asked;
 ghost use mathlib.Core.Path.{_≡_};
 ghost use mathlib.Core.Bool.{true};
@@ -75,36 +73,4 @@ pub fn replace_late<'q>(
     let tx = tally_of(table, kinds, a, b, place, count, x);
     let same = queue::matched(x, y, 1);
     replace_tests(count, ty, tx, same, queue::matched(d, y, 1))
-}
-
-pub fn up_late<'q>(
-    table: &[u16],
-    kinds: &'q [u16; 64],
-    a: &'q [u16; 64],
-    b: &'q [u16; 64],
-    place: u16,
-    count: u16,
-    x: u16,
-    n: u16,
-) -> Asked
-    requires { ⌜ TableShape (now table) × (place < slots) × (count ≤ slots) × (isCell (capacity (now table)) x ≡ true) ⌝ }
-    ensures { λ r. ⌜ LateAnswer (now (table .entry)) (now (kinds .entry)) (now (a .entry)) (now (b .entry)) place count (packet 4 x n 0) r ⌝ }
-{
-    up_tests(count, tally_of(table, kinds, a, b, place, count, x), n)
-}
-
-pub fn down_late<'q>(
-    table: &[u16],
-    kinds: &'q [u16; 64],
-    a: &'q [u16; 64],
-    b: &'q [u16; 64],
-    place: u16,
-    count: u16,
-    x: u16,
-    n: u16,
-) -> Asked
-    requires { ⌜ TableShape (now table) × (place < slots) × (count ≤ slots) × (isCell (capacity (now table)) x ≡ true) × (1 ≤ n) ⌝ }
-    ensures { λ r. ⌜ LateAnswer (now (table .entry)) (now (kinds .entry)) (now (a .entry)) (now (b .entry)) place count (packet 5 x n 0) r ⌝ }
-{
-    down_tests(count, tally_of(table, kinds, a, b, place, count, x), n)
 }

@@ -9,16 +9,17 @@ use chain::make_chain;
 use early::cell_asked;
 use early::words_asked;
 use late::cons_late;
-use late::down_late;
 use late::read_late;
 use late::replace_late;
-use late::up_late;
 use machine::Asked;
 use machine::FreshAnswer;
 use machine::Queue;
 use machine::Refusal;
 use machine::RowAnswer;
+use operands::tally_of;
 use queue::Packet;
+use tests::down_tests;
+use tests::up_tests;
 ghost use mathlib.Core.Path.{_≡_};
 ghost use mathlib.Core.Bool.{cond};
 ghost use Prim.Native.Nat.{_≤_, _<_};
@@ -264,7 +265,7 @@ fn up_cell(table: &[u16], queue: Queue, x: u16, n: u16) -> RowReply
     requires { ⌜ cellNumber (now table) queue n x 0 ≡ 0 ⌝ }
     ensures { λ r. ⌜ RowCalled (now (table .entry)) queue (up x n) (r .answer) (now (table .entry)) (r .queue) ⌝ }
 {
-    let asked = up_late(
+    let sums = tally_of(
         table,
         &queue.kinds,
         &queue.a,
@@ -272,8 +273,8 @@ fn up_cell(table: &[u16], queue: Queue, x: u16, n: u16) -> RowReply
         queue.place,
         queue.count,
         x,
-        n,
     );
+    let asked = up_tests(queue.count, sums, n);
     if let Asked::No(refusal) = asked {
         return refused(queue, refusal);
     }
@@ -301,7 +302,7 @@ fn down_cell(table: &[u16], queue: Queue, x: u16, n: u16) -> RowReply
     requires { ⌜ cellNumber (now table) queue n x 0 ≡ 0 ⌝ }
     ensures { λ r. ⌜ RowCalled (now (table .entry)) queue (down x n) (r .answer) (now (table .entry)) (r .queue) ⌝ }
 {
-    let asked = down_late(
+    let sums = tally_of(
         table,
         &queue.kinds,
         &queue.a,
@@ -309,8 +310,8 @@ fn down_cell(table: &[u16], queue: Queue, x: u16, n: u16) -> RowReply
         queue.place,
         queue.count,
         x,
-        n,
     );
+    let asked = down_tests(queue.count, sums, n);
     if let Asked::No(refusal) = asked {
         return refused(queue, refusal);
     }

@@ -27,7 +27,8 @@ cons-late-requires c κs =
     let shape = accepted (c .before .before .before .before .before .before) in (shape .table, shape .queue .place, shape .queue .count)
 
 -- the late answer is the call's
-whole : (c : tie.After-cons-late) → askedNumber (c .cons-late .result) ≡ firstNo (codeQuestions (start c .args .table .now) (start c .args .t2) (cons (start c .args .x) (start c .args .y)))
+whole : (c : tie.After-cons-late)
+    → askedNumber (c .cons-late .result) ≡ firstNo (codeQuestions (start c .args .table .now) (start c .args .t2) (cons (start c .args .x) (start c .args .y)))
 whole c =
     let s = start c in
     let i = s .args in

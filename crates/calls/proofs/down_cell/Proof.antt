@@ -4,31 +4,46 @@ use Rattle.machine.specs.Queue.{packet}
 use Rattle.machine.specs.Calls.{down}
 use Rattle.machine.specs.Questions.{firstNo}
 use Rattle.machine.specs.Answers.{askedNumber}
-use Rattle.calls.specs.Tests.{codeQuestions}
+use Rattle.calls.specs.Tests.{codeLate, codeQuestions}
 use Rattle.calls.proofs.EarlyLaws.{Callable, callable}
+use Rattle.calls.proofs.LateLaws.{down-asked}
 use Rattle.calls.proofs.CallLaws.{down-whole}
 use Rattle.calls.proofs.RowLaws.{row-refused, late-slot, down-done}
 use Rattle.calls.proofs.down_cell.Statement.{statement}
 use Rattle.calls.proofs.down_cell.Tie as tie
 
 -- the queue, whose arrays are lent, goes by the name t2
-abbrev start : tie.After-down-late → tie.Start
-start c = c .before .before .before .before .before .before
+abbrev start : tie.After-down-tests → tie.Start
+start c = c .before .before .before .before .before .before .before
 
 -- what the early questions' "yes" leaves
 accepted : (c : tie.Start) → Callable (c .args .table .now) (c .args .t2) (c .args .n) (c .args .x)
 accepted c = let i = c .args in callable (i .table .now) (i .t2) (i .n) (i .x) 0 (c .pre)
 
-down-late-requires : tie.Need-down-late-requires
-down-late-requires c κs =
-    let a = accepted (c .before .before .before .before .before) in (a .shape .table, a .shape .queue .place, a .shape .queue .count, a .cell, a .some)
+tally-of-requires : tie.Need-tally-of-requires
+tally-of-requires c κs =
+    let shape = accepted (c .before .before .before .before .before) .shape in (shape .table, shape .queue .place, shape .queue .count)
 
--- the late answer is the call's
-whole : (c : tie.After-down-late) → askedNumber (c .down-late .result) ≡ firstNo (codeQuestions (start c .args .table .now) (start c .args .t2) (down (start c .args .x) (start c .args .n)))
+down-tests-requires : tie.Need-down-tests-requires
+down-tests-requires c κs = search needs
+
+-- the tests' answer is that of the late questions
+late : (c : tie.After-down-tests)
+    → askedNumber (c .down-tests .result) ≡ firstNo (codeLate (start c .args .table .now) (start c .args .t2) (packet 5 (start c .args .x) (start c .args .n) 0))
+late c =
+    let s = start c in
+    let i = s .args in
+    let a = accepted s in
+    let sums = c .before .tally-of in
+    down-asked (i .table .now) (i .t2) (i .x) (i .n) (sums .result) _ (a .cell) (a .some) (sums .ensures .0 (i .t2 .c)) (c .down-tests .ensures (i .t2))
+
+-- and the call's
+whole : (c : tie.After-down-tests)
+    → askedNumber (c .down-tests .result) ≡ firstNo (codeQuestions (start c .args .table .now) (start c .args .t2) (down (start c .args .x) (start c .args .n)))
 whole c =
     let s = start c in
     let i = s .args in
-    down-whole (i .table .now) (i .t2) (i .x) (i .n) (c .down-late .result) (s .pre) (c .down-late .ensures (i .t2 .c))
+    down-whole (i .table .now) (i .t2) (i .x) (i .n) (c .down-tests .result) (s .pre) (late c)
 
 enum-known-asked : tie.Need-enum-known-asked
 enum-known-asked c = search needs
@@ -42,7 +57,7 @@ returns c =
     let at-late = at-no .before .before in
     let i = start at-late .args in
     let no = at-no .asked .given in
-    row-refused (i .table .now) (i .t2) (down (i .x) (i .n)) (at-late .down-late .result) (no .0 .0) (c .refused .result .answer) (c .refused .result .queue)
+    row-refused (i .table .now) (i .t2) (down (i .x) (i .n)) (at-late .down-tests .result) (no .0 .0) (c .refused .result .answer) (c .refused .result .queue)
     (whole at-late) (no .1) (c .refused .ensures .0) (c .refused .ensures .1)
 
 enum-told : tie.Need-enum-told
@@ -52,10 +67,9 @@ done-requires : tie.Need-done-requires
 done-requires c κs =
     let at-late = c .before .before in
     let s = start at-late in
-    let i = s .args in
-    let late = at-late .down-late in (
+    let i = s .args in (
       accepted s .shape .queue .place,
-      late-slot (i .table .now) (i .t2) (late .result) (c .enum-told .given .1) (packet 5 (i .x) (i .n) 0) (late .ensures (i .t2 .c)),
+      late-slot (i .table .now) (i .t2) (at-late .down-tests .result) (c .enum-told .given .1) (packet 5 (i .x) (i .n) 0) (late at-late),
     )
 
 returns-2 : tie.Need-returns-2
@@ -63,14 +77,15 @@ returns-2 c =
     let at-told = c .before in
     let at-late = at-told .before .before in
     let i = start at-late .args in
-    down-done (i .table .now) (i .t2) (at-late .down-late .result) (at-told .enum-told .given .1) (c .done .result .answer) (c .done .result .queue)
+    down-done (i .table .now) (i .t2) (at-late .down-tests .result) (at-told .enum-told .given .1) (c .done .result .answer) (c .done .result .queue)
     (i .x) (i .n) (whole at-late) (c .done .ensures .0) (c .done .ensures .1)
 
 pub down-cell-spec : {M : Type 1} → statement M
 down-cell-spec =
     tie.close
     (tie.spec
-    down-late-requires
+    tally-of-requires
+    down-tests-requires
     enum-known-asked
     refused-requires
     returns

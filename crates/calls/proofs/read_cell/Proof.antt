@@ -33,7 +33,8 @@ read-late-requires c κs =
     let a = accepted (c .before .before .before .before .before .before) in (a .shape .table, a .shape .queue .place, a .shape .queue .count, a .cell)
 
 -- the late answer is the call's
-whole : (c : tie.After-read-late) → askedNumber (c .read-late .result) ≡ firstNo (codeQuestions (start c .args .table .now) (start c .args .t2) (readCall (start c .args .k) (start c .args .x)))
+whole : (c : tie.After-read-late)
+    → askedNumber (c .read-late .result) ≡ firstNo (codeQuestions (start c .args .table .now) (start c .args .t2) (readCall (start c .args .k) (start c .args .x)))
 whole c =
     let s = start c in
     let i = s .args in

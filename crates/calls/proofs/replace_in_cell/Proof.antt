@@ -34,7 +34,8 @@ replace-late-requires c κs =
     let shape = accepted (c .before .before .before .before .before .before .before .before) .shape in (shape .table, shape .queue .place, shape .queue .count)
 
 -- the late answer is the call's
-whole : (c : tie.After-replace-late) → askedNumber (c .replace-late .result) ≡ firstNo (codeQuestions (start c .args .table .now) (start c .args .t2) (replaceCall (start c .args .k) (start c .args .x) (start c .args .y)))
+whole : (c : tie.After-replace-late)
+    → askedNumber (c .replace-late .result) ≡ firstNo (codeQuestions (start c .args .table .now) (start c .args .t2) (replaceCall (start c .args .k) (start c .args .x) (start c .args .y)))
 whole c =
     let s = start c in
     let i = s .args in

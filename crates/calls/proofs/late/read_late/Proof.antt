@@ -1,7 +1,6 @@
-use mathlib.Core.Path.{sym, _∙_}
 use borrow.Author.Needs.{needs}
 use Rattle.machine.specs.Queue.{queueOf}
-use Rattle.calls.proofs.LateLaws.{read-late}
+use Rattle.calls.proofs.LateLaws.{read-asked}
 use Rattle.calls.proofs.late.read_late.Statement.{statement}
 use Rattle.calls.proofs.late.read_late.Tie as tie
 
@@ -25,9 +24,8 @@ returns c w =
     let start = at-x .before .before in
     let i = start .args in
     let q = queueOf (i .kinds .now) (i .a .now) (i .b .now) w (i .place) (i .count) in
-    c .read-tests .ensures q
-    ∙ sym (read-late (i .table .now) q (i .x) (i .w) (at-x .tally-of .result) (at-w .tally-of2 .result) (at-same .matched .result)
-    (start .pre .3) (at-x .tally-of .ensures .0 w) (at-w .tally-of2 .ensures .0 w) (at-same .matched .ensures .0))
+    read-asked (i .table .now) q (i .x) (i .w) (at-x .tally-of .result) (at-w .tally-of2 .result) (at-same .matched .result) _
+    (start .pre .3) (at-x .tally-of .ensures .0 w) (at-w .tally-of2 .ensures .0 w) (at-same .matched .ensures .0) (c .read-tests .ensures q)
 
 pub read-late-spec : {M : Type 1} → statement M
 read-late-spec =
