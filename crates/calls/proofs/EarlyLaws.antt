@@ -17,7 +17,7 @@ use Rattle.machine.specs.Facts.{Shape}
 use Rattle.machine.specs.declared.Asked
 use Rattle.machine.specs.declared.Asked.{Asked}
 use Rattle.machine.specs.declared.Refusal.{Refusal}
-use Rattle.machine.specs.Answers.{refusalNumber, askedNumber}
+use Rattle.machine.specs.Answers.{askedNumber}
 use Rattle.machine.proofs.Answers.{refusal-some, asked-no, asked-yes}
 use Rattle.machine.proofs.Questions.{shape-is}
 use Rattle.machine.proofs.Words.{cell-index, cell-number}

@@ -68,7 +68,8 @@ module _ (t : List ℕ) (q : Queue) (r : RowCall) where
       }
 
 -- an early "no" refuses the call
-module _ (t : List ℕ) (q : Queue) (asked : Asked) (f : Refusal) (no : asked ≡ Asked.No f) (a : RowAnswer) (q′ : Queue) (h : a ≡ RowAnswer.Refused f) (e : q′ ≡ q) where
+module _ (t : List ℕ) (q : Queue) (asked : Asked) (f : Refusal) (no : asked ≡ Asked.No f) (a : RowAnswer) (q′ : Queue)
+    (h : a ≡ RowAnswer.Refused f) (e : q′ ≡ q) where
   early-refused : (r : RowCall) (early late : ℕ) → firstNo (codeQuestions t q r) ≡ firstOf early late → askedNumber asked ≡ early → RowCalled t q r a t q′
   early-refused r early late d z = row-refused t q r asked f a q′ (early-first (firstNo (codeQuestions t q r)) early late asked f d z no) no h e
 

@@ -1,4 +1,5 @@
-// Fresh and the seven row calls, for any table, queue and numbers. Each asks its questions first and writes only if none says "no".
+// Fresh and the seven row calls, for any table, queue and numbers. Each asks its questions first and writes only if none says "no". Questions 1 to 5
+// look at no packet: they stand in the public calls themselves, so that a call which one of them refuses copies the queue once, into its reply.
 mod chain;
 mod early;
 mod late;
