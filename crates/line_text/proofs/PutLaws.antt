@@ -14,7 +14,7 @@ use Rattle.line_text.specs.declared.Verdict
 use Rattle.line_text.specs.declared.Verdict.{Verdict}
 use Rattle.line_text.specs.Bytes.{digitZero}
 use Rattle.line_text.specs.Texts.{digits, mostDigits, verdictRoom, verdictText, room, outputLine}
-use Rattle.line_text.specs.Put.{Put, Shows, CountsUp, numbered}
+use Rattle.line_text.specs.Put.{Put, Shows, CountsUp}
 
 -- two texts are one
 pub put-both : {a b d : List ℕ} {at m r : ℕ} {u v : List ℕ} → Put a at u b m → Put b m v d r → Put a at (u ++ v) d r
@@ -173,8 +173,3 @@ module _ {text : List ℕ} {size number : ℕ} (shown : Shows text size number) 
 
   pub shows-most : size ≤ mostDigits
   shows-most = omega (arith, shown .ends, digits-length mostDigits number)
-
-  -- the line of the number that is shown
-  pub shows-line : (v : Verdict) → numbered (take size text) v ≡ outputLine number v
-  unfolding outputLine
-  shows-line v = rw (shown .front)

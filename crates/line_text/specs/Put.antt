@@ -1,11 +1,9 @@
 -- What a writer into a lent buffer does, and the text of a number that is counted up.
 use mathlib.Core.Path.{_≡_}
-use mathlib.Core.List.{List, [], _∷_, _++_}
+use mathlib.Core.List.{List, _++_}
 use Prim.Native.Nat.{ℕ, _+_, _^_, _≤_, _<_}
 use lib.ListN.{length, take}
-use Rattle.line_text.specs.declared.Verdict.{Verdict}
-use Rattle.line_text.specs.Bytes.{lineFeed, space}
-use Rattle.line_text.specs.Texts.{mostDigits, decimal, verdictText}
+use Rattle.line_text.specs.Texts.{mostDigits, decimal}
 
 -- the buffer's front up to `at` stands, the text follows it, and `end` is past the text
 pub record Put (old : List ℕ) (at : ℕ) (text new : List ℕ) (end : ℕ) : Type 0 where
@@ -27,7 +25,3 @@ pub record Next (lines number : ℕ) : Type 0 where
   pub least : lines ≤ number
   pub most : number ≤ lines + 1
   pub one : lines + 1 < 2 ^ 64 → number ≡ lines + 1
-
--- an output line with these digits for its number
-abbrev pub numbered : List ℕ → Verdict → List ℕ
-numbered number v = number ++ (space ∷ []) ++ verdictText v ++ (lineFeed ∷ [])

@@ -2,10 +2,10 @@
 use crate::Verdict;
 ghost use mathlib.Core.Path.{_≡_};
 ghost use mathlib.Core.List.{_++_};
-ghost use Prim.Native.Nat.{_+_, _≤_, _<_};
+ghost use Prim.Native.Nat.{ℕ, _+_, _≤_, _<_};
 ghost use lib.ListN.{length, take};
-ghost use Rattle.line_text.specs.Texts.{digits, mostDigits, decimal, wordLength, verdictRoom, verdictText, room};
-ghost use Rattle.line_text.specs.Put.{Put, Shows, CountsUp, Next, numbered};
+ghost use Rattle.line_text.specs.Texts.{digits, mostDigits, decimal, wordLength, verdictRoom, verdictText, room, outputLine};
+ghost use Rattle.line_text.specs.Put.{Put, Shows, CountsUp, Next};
 
 // No number here has more digits.
 pub const MOST_DIGITS: usize = 20;
@@ -80,8 +80,8 @@ fn put_number(out: &mut [u8], at: usize, text: &[u8; MOST_DIGITS], size: usize) 
     at + size
 }
 
-// An output line whose number is the text's first bytes.
-pub fn put_numbered(
+// An output line, of the number that the text shows.
+pub fn put_line(
     out: &mut [u8],
     at: usize,
     text: &[u8; MOST_DIGITS],
@@ -89,7 +89,7 @@ pub fn put_numbered(
     verdict: Verdict,
 ) -> usize
     requires { ⌜ (at + room ≤ length (now out)) × (length (now text) ≡ mostDigits) × (size ≤ mostDigits) ⌝ }
-    ensures { λ r. ⌜ Put (now (out .entry)) at (numbered (take size (now (text .entry))) verdict) (now (out .exit)) r ⌝ }
+    ensures { λ r. ⌜ ((number : ℕ) → Shows (now (text .entry)) size number → Put (now (out .entry)) at (outputLine number verdict) (now (out .exit)) r) ⌝ }
 {
     let shown = put_number(out, at, text, size);
     let spaced = put_word(out, shown, b" ");

@@ -4,10 +4,10 @@ use native.Mathlib.Omega.{arith}
 use lib.ListN.{length, take}
 use lib.Seq.{length-take-le}
 use borrow.Author.Needs.{needs}
-use Rattle.line_text.specs.Texts.{mostDigits, verdictRoom}
+use Rattle.line_text.specs.Texts.{mostDigits, verdictRoom, outputLine}
 use Rattle.line_text.proofs.PutLaws.{put-both, put-within, verdict-length}
-use Rattle.line_text.proofs.texts.put_numbered.Statement.{statement}
-use Rattle.line_text.proofs.texts.put_numbered.Tie as tie
+use Rattle.line_text.proofs.texts.put_line.Statement.{statement}
+use Rattle.line_text.proofs.texts.put_line.Tie as tie
 
 shown : (c : tie.Start) → length (take (c .args .size) (c .args .text .now)) ≤ mostDigits
 shown c = omega (arith, length-take-le (c .args .size) (c .args .text .now) (omega arith))
@@ -51,18 +51,19 @@ same-length : tie.Need-same-length
 same-length c = search needs
 
 returns : tie.Need-returns
-returns c =
+unfolding outputLine
+returns c = λ number s.
     let at-put-word2 = c .before .before in
     let at-put-verdict = at-put-word2 .before .before .before .before .before in
     let at-put-word = at-put-verdict .before .before .before .before in
     let at-put-number = at-put-word .before .before .before .before .before in
-    let numbered = at-put-number .put-number .ensures in
+    let numbered = rw (s .front) at (at-put-number .put-number .ensures) in
     let spaced = put-both numbered (at-put-word .put-word .ensures) in
     let told = put-both spaced (at-put-verdict .put-verdict .ensures) in
     put-both told (at-put-word2 .put-word2 .ensures)
 
-pub put-numbered-spec : {M : Type 1} → statement M
-put-numbered-spec =
+pub put-line-spec : {M : Type 1} → statement M
+put-line-spec =
     tie.close
     (tie.spec
     put-number-requires
