@@ -13,7 +13,7 @@ use Rattle.line_text.specs.Bytes.{lineFeed, before, split}
 use Rattle.line_text.specs.Requests.{requestOf}
 use Rattle.line_text.specs.Kept.{keptBytes, Keeps}
 use Rattle.line_text.specs.Texts.{room, outputLine}
-use Rattle.line_text.specs.Put.{Put, Shows, Next}
+use Rattle.line_text.specs.Put.{Put, ShowsTens, Next}
 use Rattle.line_text.proofs.PutLaws.{output-length}
 use Rattle.line_text.proofs.RequestLaws.{last-part}
 use Rattle.line_text.proofs.WordLaws.{append-none, before-most}
@@ -32,7 +32,7 @@ pub record Going (table₀ scratch₀ input out₀ line : List ℕ) (s₀ : Sess
   pub nothing : taken ≡ 0 → written ≡ 0
   pub none : 0 < taken → held ≡ 0
   pub found : feed ≡ taken + before lineFeed (drop taken input)
-  pub shown : Shows number size lines
+  pub shown : ShowsTens number size lines
   pub tableSize : length table ≡ length table₀
   pub scratchSize : length scratch ≡ length scratch₀
   pub outSize : length out ≡ length out₀
@@ -162,7 +162,8 @@ module _ (s : Session) {held : ℕ} (size : length (s .line) ≡ keptBytes) (cap
         let whole : take taken (lineFeed ∷ []) ≡ lineFeed ∷ [] = rw taken1 in
         let begunOne : lastLine (begunLine s) ≡ (begunLine s ++ []) ∷ [] =
         rw begun (last-line held (s .line) e (λ z. omega arith)) ∙ ap (λ (x : List ℕ). x ∷ []) (sym (append-none (begunLine s))) in
-        let closed : ahead s′ t′ scratch′ [] ≡ [] = ap (λ (x : List ℕ). listed (s′ .lines) (store t′ (s′ .queue) scratch′) (lastLine x)) (told .closed refl r) in
+        let closed : ahead s′ t′ scratch′ [] ≡ [] =
+        ap (λ (x : List ℕ). listed (s′ .lines) (store t′ (s′ .queue) scratch′) (lastLine x)) (told .closed refl r) in
         ap (listed (s .lines) st) begunOne
         ∙ ap (λ (x : List ℕ). ahead s t scratch (x ++ [])) (sym whole)
         ∙ f .tells .listing g (omega (arith, ap length whole)) []

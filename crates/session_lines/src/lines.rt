@@ -92,7 +92,7 @@ pub fn serve_lines(
             queue = answered.queue;
             verdict = answered.verdict;
         }
-        written = put_line(out, written, &number, size, verdict);
+        written = put_line(out, written, &number, size, lines, verdict);
         taken = feed + 1;
         feed = taken + find(&input[taken..], b'\n');
     }

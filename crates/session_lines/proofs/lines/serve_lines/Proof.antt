@@ -6,8 +6,7 @@ use lib.ListN.{length}
 use borrow.Author.Needs.{needs}
 use Rattle.line_text.specs.Bytes.{lineFeed, before}
 use Rattle.line_text.specs.Kept.{keptBytes}
-use Rattle.line_text.specs.Put.{Shows}
-use Rattle.line_text.proofs.PutLaws.{shows-some, shows-most}
+use Rattle.line_text.specs.Put.{ShowsTens}
 use Rattle.line_text.proofs.RequestLaws.{last-part, last-part-length}
 use Rattle.session_lines.proofs.ServeLaws.{Answers, bad-answers, call-answers, answers-same}
 use Rattle.session_lines.specs.Progress.{sessionOf}
@@ -36,7 +35,7 @@ abbrev entry : tie.At-loop Inv-loop μ-loop → tie.Start Inv-loop μ-loop
 entry c = c .before .before .before .before .before .before .before .before .before .before
 
 -- the text shows the line's number
-now-shown : (c : tie.After-count-up Inv-loop μ-loop) → Shows (c .count-up .last .0) (c .count-up .result) (c .before .before .next-number .result)
+now-shown : (c : tie.After-count-up Inv-loop μ-loop) → ShowsTens (c .count-up .last .0) (c .count-up .result) (c .before .before .next-number .result)
 now-shown c =
     let at-next-number = c .before .before in
     let l = at-next-number .before .before .before .before .before .before .loop in
@@ -121,9 +120,7 @@ next-number-requires : tie.Need-next-number-requires Inv-loop μ-loop
 next-number-requires c κs = search needs
 
 count-up-requires : tie.Need-count-up-requires Inv-loop μ-loop
-count-up-requires c κs =
-    let shown = c .before .before .before .before .before .before .before .loop .inv .shown in
-    (shows-some shown, shows-most shown)
+count-up-requires c κs = search needs
 
 enum-told : tie.Need-enum-told Inv-loop μ-loop
 enum-told c = search needs
@@ -135,8 +132,7 @@ put-line-requires : tie.Need-put-line-requires Inv-loop μ-loop
 put-line-requires c κs =
     let at-count-up = c .before .before .before in
     let at-if1 = at-count-up .before .before .before .before .before .before in
-    let shown = now-shown at-count-up in
-    (omega (arith, at-if1 .if1 .left, at-if1 .before .before .loop .inv .within), shown .whole, shows-most shown)
+    (omega (arith, at-if1 .if1 .left, at-if1 .before .before .loop .inv .within), now-shown at-count-up)
 
 add-taken : tie.Need-add-taken Inv-loop μ-loop
 add-taken c =
@@ -184,22 +180,20 @@ loop-again c =
     let number = at-next-number .next-number .result in
     let input = entry at-loop .args .input .now in
     let inside = at-loop-test .loop-test .taken in
-    let shown = now-shown at-count-up in
-    let put = k .ensures number shown in
     let a = answered at-match in
     record {
       most = omega (arith, inside);
-      within = next-within number (at-match .match .verdict) (omega (arith, at-if1 .if1 .left, i .within)) (k .kept .0) put;
+      within = next-within number (at-match .match .verdict) (omega (arith, at-if1 .if1 .left, i .within)) (k .kept .0) (k .ensures);
       nothing = λ e. omega arith;
       none = λ h. refl;
       found = ap (λ (n : ℕ). l .feed + 1 + n) (c .find2 .ensures .0 ∙ ap (before lineFeed) (last-part input (l .feed + 1)));
-      shown = shown;
+      shown = now-shown at-count-up;
       tableSize = a .tableSize ∙ i .tableSize;
       scratchSize = a .scratchSize ∙ i .scratchSize;
       outSize = k .kept .0 ∙ i .outSize;
       tells =
           next-tells input (l .taken) (i .found) (l .out) (l .written) (i .tells) inside (at-request .request .ensures) (a .serves)
-          (at-next-number .next-number .ensures) put;
+          (at-next-number .next-number .ensures) (k .ensures);
     }
 
 sub-keep : tie.Need-sub-keep Inv-loop μ-loop
