@@ -7,14 +7,14 @@ use native.Mathlib.Nat.{add-assoc, add-zero}
 use native.Mathlib.Numerals.{add-one, sub-one}
 use native.Mathlib.Omega.{arith}
 use lib.Dec.{ltb}
-use lib.ListN.{length, take, getD, set, length-append, length-set}
+use lib.ListN.{length, take, getD, set, length-append}
 use lib.Seq.{take-all, take-suc, take-suc-set, take-take, take-append-add, take-at, length-take-le}
 use borrow.Author.Tests.{lt-ltb, le-ltb, ltb-true, ltb-false}
 use Rattle.line_text.specs.declared.Verdict
 use Rattle.line_text.specs.declared.Verdict.{Verdict}
 use Rattle.line_text.specs.Bytes.{digitZero}
-use Rattle.line_text.specs.Texts.{digits, mostDigits, verdictRoom, verdictText, room, outputLine}
-use Rattle.line_text.specs.Put.{Put, Shows, CountsUp, numbered}
+use Rattle.line_text.specs.Texts.{digits, mostDigits, decimal, verdictRoom, verdictText, room, outputLine}
+use Rattle.line_text.specs.Put.{Put, ShowsTens, CountsUp}
 
 -- two texts are one
 pub put-both : {a b d : List ℕ} {at m r : ℕ} {u v : List ℕ} → Put a at u b m → Put b m v d r → Put a at (u ++ v) d r
@@ -140,7 +140,8 @@ ten most a b h e = go (ltb a 10) refl
         record { tens = digits (most - 1) (a / 10); one = digits-more most a h la; other = rw e (digits-more most b h (omega arith)) }
 
 -- the last of the bytes meant is another
-last-set : (text front : List ℕ) (size d e : ℕ) → 0 < size → size ≤ length text → take size text ≡ front ++ (d ∷ []) → take size (set text (size - 1) e) ≡ front ++ (e ∷ [])
+last-set : (text front : List ℕ) (size d e : ℕ) → 0 < size → size ≤ length text → take size text ≡ front ++ (d ∷ [])
+    → take size (set text (size - 1) e) ≡ front ++ (e ∷ [])
 last-set text front zero d e h l p = absurd (never h)
   where
     never : 0 < 0 → ⊥
@@ -151,30 +152,45 @@ last-set text front (suc k) d e h l p =
     let before : take k text ≡ front = sym (take-take k (suc k) text (omega arith)) ∙ ap (take k) p ∙ take-at front (d ∷ []) k size in
     rw (sub-one (suc k)) (take-suc-set text k e (omega arith) ∙ ap (λ (l : List ℕ). l ++ (e ∷ [])) before)
 
-pub counts-up : (text : List ℕ) (size number : ℕ) → 0 < size → size ≤ mostDigits → (number % 10 ≡ 0 → ⊥)
-    → CountsUp text size number (set text (size - 1) (digitZero + number % 10)) size
-counts-up text size number h l z shown s low high =
-    let e : shown / 10 ≡ number / 10 = omega arith in
-    let t = ten mostDigits shown number (omega arith) e in
-    record {
-      whole = length-set text (size - 1) (digitZero + number % 10) ∙ s .whole;
-      front = last-set text (t .tens) size (digitZero + shown % 10) (digitZero + number % 10) h (omega (arith, s .whole)) (s .front ∙ t .one) ∙ sym (t .other);
-      ends =
-          s .ends
-          ∙ ap length (t .one)
-          ∙ length-append (t .tens) ((digitZero + shown % 10) ∷ [])
-          ∙ sym (length-append (t .tens) ((digitZero + number % 10) ∷ []))
-          ∙ sym (ap length (t .other));
-    }
-
-module _ {text : List ℕ} {size number : ℕ} (shown : Shows text size number) where
+module _ {text : List ℕ} {size number : ℕ} (shows : ShowsTens text size number) where
   pub shows-some : 0 < size
-  shows-some = omega (arith, shown .ends, digits-some mostDigits number (omega arith))
+  shows-some = omega (arith, shows .ends, digits-some mostDigits (shows .shown) (omega arith))
 
   pub shows-most : size ≤ mostDigits
-  shows-most = omega (arith, shown .ends, digits-length mostDigits number)
+  shows-most = omega (arith, shows .ends, digits-length mostDigits (shows .shown))
 
-  -- the line of the number that is shown
-  pub shows-line : (v : Verdict) → numbered (take size text) v ≡ outputLine number v
-  unfolding outputLine
-  shows-line v = rw (shown .front)
+  -- the text's digits copied, and the number's last digit behind its tens
+  pub number-put : (out new : List ℕ) (at i : ℕ) → at + mostDigits ≤ length out → length new ≡ length out → mostDigits ≤ i
+      → take (at + i) new ≡ take at out ++ take i text
+      → Put out at (decimal number) (set new (at + size - 1) (digitZero + number % 10)) (at + size)
+  number-put out new at i room same all e =
+      let one = digitZero + shows .shown % 10 in
+      let other = digitZero + number % 10 in
+      let t = ten mostDigits (shows .shown) number (omega arith) (shows .tens) in
+      let most : size ≤ mostDigits = shows-most in
+      let copied = word-front out new text at i size (omega arith) (omega arith) (omega (arith, shows .whole)) e in
+      let digits = ap (λ (l : List ℕ). take at out ++ l) (shows .front ∙ t .one) in
+      let before = copied .front ∙ digits ∙ sym (append-assoc (take at out) (t .tens) (one ∷ [])) in
+      record {
+        front =
+            last-set new (take at out ++ t .tens) (at + size) one other (omega (arith, shows-some)) (omega arith) before
+            ∙ append-assoc (take at out) (t .tens) (other ∷ [])
+            ∙ ap (λ (l : List ℕ). take at out ++ l) (sym (t .other));
+        ends =
+            ap (λ (k : ℕ). at + k)
+            (shows .ends
+            ∙ ap length (t .one)
+            ∙ length-append (t .tens) (one ∷ [])
+            ∙ sym (length-append (t .tens) (other ∷ []))
+            ∙ sym (ap length (t .other)));
+      }
+
+-- a number that is written shows its own tens
+pub shows-put : {old new : List ℕ} {size number : ℕ} → Put old 0 (decimal number) new size → length new ≡ mostDigits → ShowsTens new size number
+shows-put {number = number} put whole = record { whole = whole; shown = number; tens = refl; front = put .front; ends = omega (arith, put .ends) }
+
+-- the tens are those of the number before
+pub counts-up : (text : List ℕ) (size number : ℕ) → (number % 10 ≡ 0 → ⊥) → CountsUp text size number text size
+counts-up text size number other last s low high =
+    let same : last / 10 ≡ number / 10 = omega arith in
+    record { whole = s .whole; shown = s .shown; tens = s .tens ∙ same; front = s .front; ends = s .ends }

@@ -1,33 +1,29 @@
 -- What a writer into a lent buffer does, and the text of a number that is counted up.
 use mathlib.Core.Path.{_≡_}
-use mathlib.Core.List.{List, [], _∷_, _++_}
-use Prim.Native.Nat.{ℕ, _+_, _^_, _≤_, _<_}
+use mathlib.Core.List.{List, _++_}
+use Prim.Native.Nat.{ℕ, _+_, _/_, _^_, _≤_, _<_}
 use lib.ListN.{length, take}
-use Rattle.line_text.specs.declared.Verdict.{Verdict}
-use Rattle.line_text.specs.Bytes.{lineFeed, space}
-use Rattle.line_text.specs.Texts.{mostDigits, decimal, verdictText}
+use Rattle.line_text.specs.Texts.{mostDigits, decimal}
 
 -- the buffer's front up to `at` stands, the text follows it, and `end` is past the text
 pub record Put (old : List ℕ) (at : ℕ) (text new : List ℕ) (end : ℕ) : Type 0 where
   pub front : take end new ≡ take at old ++ text
   pub ends : end ≡ at + length text
 
--- a text of 20 bytes, of which the first, so many, are the number in base ten
-pub record Shows (text : List ℕ) (size number : ℕ) : Type 0 where
+-- a text of 20 bytes, of which the first, so many, are in base ten a number that differs from this one in its last digit at most
+pub record ShowsTens (text : List ℕ) (size number : ℕ) : Type 0 where
   pub whole : length text ≡ mostDigits
-  pub front : take size text ≡ decimal number
-  pub ends : size ≡ length (decimal number)
+  pub shown : ℕ
+  pub tens : shown / 10 ≡ number / 10
+  pub front : take size text ≡ decimal shown
+  pub ends : size ≡ length (decimal shown)
 
--- a text that shows a number, or the one before it, comes to show it
+-- a text that shows the tens of a number, or of the one before it, comes to show its tens
 abbrev pub CountsUp : List ℕ → ℕ → ℕ → List ℕ → ℕ → Type 0
-CountsUp text size number new size′ = (shown : ℕ) → Shows text size shown → shown ≤ number → number ≤ shown + 1 → Shows new size′ number
+CountsUp text size number new size′ = (last : ℕ) → ShowsTens text size last → last ≤ number → number ≤ last + 1 → ShowsTens new size′ number
 
 -- one more, unless the number stops: line numbers are below 2^64
 pub record Next (lines number : ℕ) : Type 0 where
   pub least : lines ≤ number
   pub most : number ≤ lines + 1
   pub one : lines + 1 < 2 ^ 64 → number ≡ lines + 1
-
--- an output line with these digits for its number
-abbrev pub numbered : List ℕ → Verdict → List ℕ
-numbered number v = number ++ (space ∷ []) ++ verdictText v ++ (lineFeed ∷ [])

@@ -3,9 +3,9 @@ use crate::Verdict;
 ghost use mathlib.Core.Path.{_≡_};
 ghost use mathlib.Core.List.{_++_};
 ghost use Prim.Native.Nat.{_+_, _≤_, _<_};
-ghost use lib.ListN.{length, take};
-ghost use Rattle.line_text.specs.Texts.{digits, mostDigits, decimal, wordLength, verdictRoom, verdictText, room};
-ghost use Rattle.line_text.specs.Put.{Put, Shows, CountsUp, Next, numbered};
+ghost use lib.ListN.{length};
+ghost use Rattle.line_text.specs.Texts.{digits, mostDigits, decimal, wordLength, verdictRoom, verdictText, room, outputLine};
+ghost use Rattle.line_text.specs.Put.{Put, ShowsTens, CountsUp, Next};
 
 // No number here has more digits.
 pub const MOST_DIGITS: usize = 20;
@@ -67,53 +67,58 @@ fn put_verdict(out: &mut [u8], at: usize, verdict: Verdict) -> usize
     }
 }
 
-// A text's first bytes. All of it is copied, which takes no test; what is past them is written over.
-fn put_number(out: &mut [u8], at: usize, text: &[u8; MOST_DIGITS], size: usize) -> usize
-    requires { ⌜ (at + mostDigits ≤ length (now out)) × (length (now text) ≡ mostDigits) × (size ≤ mostDigits) ⌝ }
-    ensures { λ r. ⌜ Put (now (out .entry)) at (take size (now (text .entry))) (now (out .exit)) r ⌝ }
+// A number whose tens the text shows. All of the text is copied, which takes no test; what is past the last digit is written over.
+fn put_number(
+    out: &mut [u8],
+    at: usize,
+    text: &[u8; MOST_DIGITS],
+    size: usize,
+    number: u64,
+) -> usize
+    requires { ⌜ (at + mostDigits ≤ length (now out)) × ShowsTens (now text) size number ⌝ }
+    ensures { λ r. ⌜ Put (now (out .entry)) at (decimal number) (now (out .exit)) r ⌝ }
 {
     let mut i = 0;
     while i < MOST_DIGITS {
         out[at + i] = text[i];
         i += 1;
     }
-    at + size
+    let end = at + size;
+    out[end - 1] = b'0' + ((number % 10) as u8);
+    end
 }
 
-// An output line whose number is the text's first bytes.
-pub fn put_numbered(
+pub fn put_line(
     out: &mut [u8],
     at: usize,
     text: &[u8; MOST_DIGITS],
     size: usize,
+    number: u64,
     verdict: Verdict,
 ) -> usize
-    requires { ⌜ (at + room ≤ length (now out)) × (length (now text) ≡ mostDigits) × (size ≤ mostDigits) ⌝ }
-    ensures { λ r. ⌜ Put (now (out .entry)) at (numbered (take size (now (text .entry))) verdict) (now (out .exit)) r ⌝ }
+    requires { ⌜ (at + room ≤ length (now out)) × ShowsTens (now text) size number ⌝ }
+    ensures { λ r. ⌜ Put (now (out .entry)) at (outputLine number verdict) (now (out .exit)) r ⌝ }
 {
-    let shown = put_number(out, at, text, size);
-    let spaced = put_word(out, shown, b" ");
+    let numbered = put_number(out, at, text, size, number);
+    let spaced = put_word(out, numbered, b" ");
     let told = put_verdict(out, spaced, verdict);
     put_word(out, told, b"\n")
 }
 
 // A number's digits, from the text's first byte on.
 pub fn number_text(text: &mut [u8; MOST_DIGITS], number: u64) -> usize
-    ensures { λ r. ⌜ Shows (now (text .exit)) r number ⌝ }
+    ensures { λ r. ⌜ ShowsTens (now (text .exit)) r number ⌝ }
 {
     put_digits(text, 0, MOST_DIGITS, number)
 }
 
-// Within a ten only the last digit is another.
+// Only a number that ends in 0 has other tens than the one before it.
 pub fn count_up(text: &mut [u8; MOST_DIGITS], size: usize, number: u64) -> usize
-    requires { ⌜ (0 < size) × (size ≤ mostDigits) ⌝ }
     ensures { λ r. ⌜ CountsUp (now (text .entry)) size number (now (text .exit)) r ⌝ }
 {
-    let last = number % 10;
-    if last == 0 {
+    if number % 10 == 0 {
         return number_text(text, number);
     }
-    text[size - 1] = b'0' + (last as u8);
     size
 }
 

@@ -13,8 +13,8 @@ use Rattle.line_text.specs.Bytes.{lineFeed, before, split}
 use Rattle.line_text.specs.Requests.{requestOf}
 use Rattle.line_text.specs.Kept.{keptBytes, Keeps}
 use Rattle.line_text.specs.Texts.{room, outputLine}
-use Rattle.line_text.specs.Put.{Put, Shows, Next, numbered}
-use Rattle.line_text.proofs.PutLaws.{output-length, shows-line}
+use Rattle.line_text.specs.Put.{Put, ShowsTens, Next}
+use Rattle.line_text.proofs.PutLaws.{output-length}
 use Rattle.line_text.proofs.RequestLaws.{last-part}
 use Rattle.line_text.proofs.WordLaws.{append-none, before-most}
 use Rattle.line_text.proofs.KeepLaws.{take-cap}
@@ -32,7 +32,7 @@ pub record Going (table₀ scratch₀ input out₀ line : List ℕ) (s₀ : Sess
   pub nothing : taken ≡ 0 → written ≡ 0
   pub none : 0 < taken → held ≡ 0
   pub found : feed ≡ taken + before lineFeed (drop taken input)
-  pub shown : Shows number size lines
+  pub shown : ShowsTens number size lines
   pub tableSize : length table ≡ length table₀
   pub scratchSize : length scratch ≡ length scratch₀
   pub outSize : length out ≡ length out₀
@@ -42,21 +42,19 @@ module _ (input : List ℕ) (taken : ℕ) {feed : ℕ} (found : feed ≡ taken +
     {s₀ s : Session} {t₀ scratch₀ t scratch : List ℕ} (out : List ℕ) (written : ℕ)
     (told : Tells s₀ t₀ scratch₀ (take taken input) (take written out) s t scratch) where
   -- the next line served
-  pub next-tells : {request : Request} {v : Verdict} {lines : ℕ} {t′ : List ℕ} {queue : Queue} {scratch′ number : List ℕ} {size end : ℕ} {new line : List ℕ}
+  pub next-tells : {request : Request} {v : Verdict} {lines : ℕ} {t′ : List ℕ} {queue : Queue} {scratch′ : List ℕ} {end : ℕ} {new line : List ℕ}
       → feed < length input
       → request ≡ requestOf (begunLine s ++ take (feed - taken) (drop taken input))
       → (Good t (s .queue) → Serves (store t (s .queue) scratch) request v (store t′ queue scratch′))
       → Next (s .lines) lines
-      → Shows number size lines
-      → Put out written (numbered (take size number) v) new end
+      → Put out written (outputLine lines v) new end
       → Tells s₀ t₀ scratch₀ (take (feed + 1) input) (take end new) (sessionOf line 0 lines queue) t′ scratch′
-  next-tells {v = v} {lines = lines} {end = end} {new = new} inside er es en shown put =
+  next-tells inside er es en put =
       let rest = drop taken input in
       let size : length rest ≡ length input - taken = length-drop taken input in
       let first : feed - taken ≡ before lineFeed rest = omega arith in
       let past : taken + (before lineFeed rest + 1) ≡ feed + 1 = omega arith in
-      let output : take end new ≡ take written out ++ outputLine lines v = put .front ∙ ap (λ (l : List ℕ). take written out ++ l) (shows-line shown v) in
-      rw (← past, take-add taken (before lineFeed rest + 1) input, output)
+      rw (← past, take-add taken (before lineFeed rest + 1) input, put .front)
       (tells-both told (ended-tells s rest (omega arith) (line-tells (rw first at er) es en)))
 
   -- what is left begins a line
@@ -71,9 +69,9 @@ module _ (input : List ℕ) (taken : ℕ) {feed : ℕ} (found : feed ≡ taken +
       (tells-both told (joined-tells s rest all size (rw (last-part input taken) at kept)))
 
 -- an output line ends within its room
-pub next-within : {out new number : List ℕ} {written end size lines : ℕ} (v : Verdict) → written + room ≤ length out → length new ≡ length out
-    → Shows number size lines → Put out written (numbered (take size number) v) new end → end ≤ length new
-next-within {lines = lines} v h l shown put = omega (arith, put .ends, ap length (shows-line shown v), output-length lines v)
+pub next-within : {out new : List ℕ} {written end : ℕ} (lines : ℕ) (v : Verdict) → written + room ≤ length out → length new ≡ length out
+    → Put out written (outputLine lines v) new end → end ≤ length new
+next-within lines v h l put = omega (arith, put .ends, output-length lines v)
 
 -- with room for a line something is taken
 some-taken : (taken written size : ℕ) → (taken ≡ 0 → written ≡ 0) → size - written < room → room ≤ size → 0 < taken
@@ -164,7 +162,8 @@ module _ (s : Session) {held : ℕ} (size : length (s .line) ≡ keptBytes) (cap
         let whole : take taken (lineFeed ∷ []) ≡ lineFeed ∷ [] = rw taken1 in
         let begunOne : lastLine (begunLine s) ≡ (begunLine s ++ []) ∷ [] =
         rw begun (last-line held (s .line) e (λ z. omega arith)) ∙ ap (λ (x : List ℕ). x ∷ []) (sym (append-none (begunLine s))) in
-        let closed : ahead s′ t′ scratch′ [] ≡ [] = ap (λ (x : List ℕ). listed (s′ .lines) (store t′ (s′ .queue) scratch′) (lastLine x)) (told .closed refl r) in
+        let closed : ahead s′ t′ scratch′ [] ≡ [] =
+        ap (λ (x : List ℕ). listed (s′ .lines) (store t′ (s′ .queue) scratch′) (lastLine x)) (told .closed refl r) in
         ap (listed (s .lines) st) begunOne
         ∙ ap (λ (x : List ℕ). ahead s t scratch (x ++ [])) (sym whole)
         ∙ f .tells .listing g (omega (arith, ap length whole)) []

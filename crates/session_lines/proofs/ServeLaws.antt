@@ -149,7 +149,8 @@ pub bad-serves : {t : List ℕ} {q : Queue} {scratch : List ℕ} → Good t q �
 bad-serves g = record { verdict = refl; after = refl; good = g }
 
 -- a request answered: the lengths of the lent slices stand
-pub record Answers (t : List ℕ) (queue : Queue) (scratch : List ℕ) (request : Request) (v : Verdict) (t′ : List ℕ) (queue′ : Queue) (scratch′ : List ℕ) : Type 0 where
+pub record Answers (t : List ℕ) (queue : Queue) (scratch : List ℕ) (request : Request) (v : Verdict) (t′ : List ℕ) (queue′ : Queue) (scratch′ : List ℕ) :
+    Type 0 where
   pub serves : Good t queue → Serves (store t queue scratch) request v (store t′ queue′ scratch′)
   pub tableSize : length t′ ≡ length t
   pub scratchSize : length scratch′ ≡ length scratch
@@ -164,6 +165,8 @@ pub call-answers : {t : List ℕ} {queue : Queue} {scratch : List ℕ} {request 
     → Answers t queue scratch request v t′ queue′ scratch′
 call-answers serves t scratch = record { serves = serves; tableSize = t; scratchSize = scratch }
 
-pub answers-same : {t : List ℕ} {queue : Queue} {scratch : List ℕ} {request : Request} {v w : Verdict} {t′ u : List ℕ} {queue′ q : Queue} {scratch′ z : List ℕ}
+-- the table, the scratch, the queue and the verdict by other names
+pub answers-same : {t : List ℕ} {queue : Queue} {scratch : List ℕ} {request : Request} {v w : Verdict} {t′ u : List ℕ} {queue′ q : Queue}
+    {scratch′ z : List ℕ}
     → t′ ≡ u → scratch′ ≡ z → queue′ ≡ q → v ≡ w → Answers t queue scratch request w u q z → Answers t queue scratch request v t′ queue′ scratch′
 answers-same et es eq ev a = rw (et, es, eq, ev) a

@@ -13,7 +13,7 @@ use line_text::texts::ROOM;
 use line_text::texts::count_up;
 use line_text::texts::next_number;
 use line_text::texts::number_text;
-use line_text::texts::put_numbered;
+use line_text::texts::put_line;
 use machine::Queue;
 ghost use mathlib.Core.Path.{_≡_};
 ghost use mathlib.Core.List.{_++_};
@@ -92,7 +92,7 @@ pub fn serve_lines(
             queue = answered.queue;
             verdict = answered.verdict;
         }
-        written = put_numbered(out, written, &number, size, verdict);
+        written = put_line(out, written, &number, size, lines, verdict);
         taken = feed + 1;
         feed = taken + find(&input[taken..], b'\n');
     }

@@ -5,15 +5,15 @@ use native.Mathlib.Omega.{arith}
 use lib.ListN.{length, take, length-set}
 use borrow.Author.Needs.{needs}
 use Rattle.line_text.specs.Texts.{mostDigits}
-use Rattle.line_text.proofs.PutLaws.{word-none, word-step, word-front}
+use Rattle.line_text.proofs.PutLaws.{word-none, word-step, shows-some, shows-most, number-put}
 use Rattle.line_text.proofs.texts.put_number.Statement.{statement}
 use Rattle.line_text.proofs.texts.put_number.Tie as tie
 
 abbrev Inv-loop : tie.InvT-loop
-Inv-loop out₀ at text size i₀ out i = (i ≤ mostDigits) × (length out ≡ length out₀) × (take (at + i) out ≡ take at out₀ ++ take i text)
+Inv-loop out₀ at text size number i₀ out i = (i ≤ mostDigits) × (length out ≡ length out₀) × (take (at + i) out ≡ take at out₀ ++ take i text)
 
 abbrev μ-loop : tie.MeasureT-loop
-μ-loop out₀ at text size i₀ out i = mostDigits - i
+μ-loop out₀ at text size number i₀ out i = mostDigits - i
 
 loop-holds : tie.Need-loop-holds Inv-loop μ-loop
 loop-holds c = (omega arith, refl, word-none (c .args .out .now) (c .args .text .now) (c .args .at))
@@ -36,16 +36,38 @@ loop-less c = search needs
 loop-again : tie.Need-loop-again Inv-loop μ-loop
 loop-again c =
     let l = c .before .before .loop in
-    (omega arith, simp length-set (l .inv .1), word-step _ _ _ _ (l .i) (omega arith) (omega arith) (l .inv .2))
+    let shows = c .before .before .before .pre .1 in
+    (omega arith, simp length-set (l .inv .1), word-step _ _ _ _ (l .i) (omega (arith, shows .whole)) (omega arith) (l .inv .2))
 
-add-result : tie.Need-add-result Inv-loop μ-loop
-add-result c = search needs
+add-end : tie.Need-add-end Inv-loop μ-loop
+add-end c =
+    let shows = c .before .before .pre .1 in
+    omega (arith, shows-some shows, shows-most shows)
+
+cast-out : tie.Need-cast-out Inv-loop μ-loop
+cast-out c = search needs
+
+add-out-2 : tie.Need-add-out-2 Inv-loop μ-loop
+add-out-2 c = search needs
+
+sub-out : tie.Need-sub-out Inv-loop μ-loop
+sub-out c =
+    let shows = c .before .before .pre .1 in
+    omega (arith, shows-some shows, shows-most shows)
+
+slice-write-out-2 : tie.Need-slice-write-out-2 Inv-loop μ-loop
+slice-write-out-2 c =
+    let shows = c .before .before .pre .1 in
+    omega (arith, shows-some shows, shows-most shows)
 
 same-length : tie.Need-same-length Inv-loop μ-loop
-same-length c = c .before .loop .inv .1
+same-length c = simp length-set (c .before .loop .inv .1)
 
 returns : tie.Need-returns Inv-loop μ-loop
-returns c = let l = c .before .loop in word-front _ _ _ _ (l .i) _ (omega arith) (omega arith) (omega arith) (l .inv .2)
+returns c =
+    let l = c .before .loop in
+    let start = c .before .before in
+    number-put (start .pre .1) _ _ _ (l .i) (start .pre .0) (l .inv .1) (omega arith) (l .inv .2)
 
 pub put-number-spec : {M : Type 1} → statement M
 put-number-spec =
@@ -60,6 +82,10 @@ put-number-spec =
     add-i
     loop-less
     loop-again
-    add-result
+    add-end
+    cast-out
+    add-out-2
+    sub-out
+    slice-write-out-2
     same-length
     returns)

@@ -6,8 +6,7 @@ use lib.ListN.{length}
 use borrow.Author.Needs.{needs}
 use Rattle.line_text.specs.Bytes.{lineFeed, before}
 use Rattle.line_text.specs.Kept.{keptBytes}
-use Rattle.line_text.specs.Put.{Shows}
-use Rattle.line_text.proofs.PutLaws.{shows-some, shows-most}
+use Rattle.line_text.specs.Put.{ShowsTens}
 use Rattle.line_text.proofs.RequestLaws.{last-part, last-part-length}
 use Rattle.session_lines.proofs.ServeLaws.{Answers, bad-answers, call-answers, answers-same}
 use Rattle.session_lines.specs.Progress.{sessionOf}
@@ -28,8 +27,15 @@ abbrev μ-loop : tie.MeasureT-loop
 line-length : (c : tie.Start Inv-loop μ-loop) → length (c .args .session .line) ≡ keptBytes
 line-length c = search needs
 
+-- back to the turn's test, and to the entry
+abbrev turn : tie.At-match-came Inv-loop μ-loop → tie.In-loop Inv-loop μ-loop
+turn c = c .before .before .before .before .before .before .before .before
+
+abbrev entry : tie.At-loop Inv-loop μ-loop → tie.Start Inv-loop μ-loop
+entry c = c .before .before .before .before .before .before .before .before .before .before
+
 -- the text shows the line's number
-now-shown : (c : tie.After-count-up Inv-loop μ-loop) → Shows (c .count-up .last .0) (c .count-up .result) (c .before .before .next-number .result)
+now-shown : (c : tie.After-count-up Inv-loop μ-loop) → ShowsTens (c .count-up .last .0) (c .count-up .result) (c .before .before .next-number .result)
 now-shown c =
     let at-next-number = c .before .before in
     let l = at-next-number .before .before .before .before .before .before .loop in
@@ -40,9 +46,9 @@ now-shown c =
 answered :
     (c : tie.At-match-came Inv-loop μ-loop) →
     Answers
-    (c .before .before .before .before .before .before .before .before .before .loop .table)
-    (c .before .before .before .before .before .before .before .before .before .loop .queue)
-    (c .before .before .before .before .before .before .before .before .before .loop .scratch)
+    (turn c .before .loop .table)
+    (turn c .before .loop .queue)
+    (turn c .before .loop .scratch)
     (c .before .before .before .before .request .result)
     (c .match .verdict)
     (c .match .table)
@@ -108,15 +114,13 @@ part-request-end : tie.Need-part-request-end Inv-loop μ-loop
 part-request-end c = search needs
 
 request-requires : tie.Need-request-requires Inv-loop μ-loop
-request-requires c κs = line-length (c .before .before .before .before .before .before .before .before .before .before .before .before .before .before)
+request-requires c κs = line-length (entry (c .before .before .before .before))
 
 next-number-requires : tie.Need-next-number-requires Inv-loop μ-loop
 next-number-requires c κs = search needs
 
 count-up-requires : tie.Need-count-up-requires Inv-loop μ-loop
-count-up-requires c κs =
-    let shown = c .before .before .before .before .before .before .before .loop .inv .shown in
-    (shows-some shown, shows-most shown)
+count-up-requires c κs = search needs
 
 enum-told : tie.Need-enum-told Inv-loop μ-loop
 enum-told c = search needs
@@ -124,13 +128,16 @@ enum-told c = search needs
 serve-requires : tie.Need-serve-requires Inv-loop μ-loop
 serve-requires c κs = search needs
 
-put-numbered-requires : tie.Need-put-numbered-requires Inv-loop μ-loop
-put-numbered-requires c κs =
-    let shown = now-shown (c .before .before .before) in
-    (omega (arith, c .before .before .before .before .before .before .before .before .before .if1 .left, c .before .before .before .before .before .before .before .before .before .before .before .loop .inv .within), shown .whole, shows-most shown)
+put-line-requires : tie.Need-put-line-requires Inv-loop μ-loop
+put-line-requires c κs =
+    let at-count-up = c .before .before .before in
+    let at-if1 = at-count-up .before .before .before .before .before .before in
+    (omega (arith, at-if1 .if1 .left, at-if1 .before .before .loop .inv .within), now-shown at-count-up)
 
 add-taken : tie.Need-add-taken Inv-loop μ-loop
-add-taken c = omega (arith, c .before .before .before .before .before .before .before .before .before .before .before .before .before .loop-test .taken, c .before .before .before .before .before .before .before .before .before .before .before .before .before .before .before .before .before .before .before .before .before .before .before .before .good)
+add-taken c =
+    let at-loop-test = turn (c .before .before .before .before .before) in
+    omega (arith, at-loop-test .loop-test .taken, entry (at-loop-test .before) .good)
 
 sub-find : tie.Need-sub-find Inv-loop μ-loop
 sub-find c = search needs
@@ -146,11 +153,16 @@ find-requires-2 c κs = search needs
 
 add-feed : tie.Need-add-feed Inv-loop μ-loop
 add-feed c =
-    let input = c .before .before .before .before .before .before .before .before .before .before .before .before .before .before .before .before .before .before .before .before .before .before .before .before .before .before .args .input .now in
-    omega (arith, c .find2 .ensures .1, last-part-length input (c .before .before .before .before .before .before .before .before .before .before .before .before .before .before .before .before .loop .feed + 1), c .before .before .before .before .before .before .before .before .before .before .before .before .before .before .before .loop-test .taken, c .before .before .before .before .before .before .before .before .before .before .before .before .before .before .before .before .before .before .before .before .before .before .before .before .before .before .good)
+    let at-loop-test = turn (c .before .before .before .before .before .before .before) in
+    let at-loop = at-loop-test .before in
+    let input = entry at-loop .args .input .now in
+    let left = last-part-length input (at-loop .loop .feed + 1) in
+    omega (arith, c .find2 .ensures .1, left, at-loop-test .loop-test .taken, entry at-loop .good)
 
 loop-less : tie.Need-loop-less Inv-loop μ-loop
-loop-less c = omega (arith, c .before .before .before .before .before .before .before .before .before .before .before .before .before .before .before .before .loop .inv .found, c .before .before .before .before .before .before .before .before .before .before .before .before .before .before .before .loop-test .taken)
+loop-less c =
+    let at-loop-test = turn (c .before .before .before .before .before .before .before) in
+    omega (arith, at-loop-test .before .loop .inv .found, at-loop-test .loop-test .taken)
 
 loop-again : tie.Need-loop-again Inv-loop μ-loop
 loop-again c =
@@ -162,27 +174,26 @@ loop-again c =
     let at-if1 = at-request .before .before .before in
     let at-loop-test = at-if1 .before in
     let at-loop = at-loop-test .before in
-    let start = at-loop .before .before .before .before .before .before .before .before .before .before in
     let l = at-loop .loop in
     let i = l .inv in
-    let k = at-put .put-numbered in
-    let input = start .args .input .now in
+    let k = at-put .put-line in
+    let number = at-next-number .next-number .result in
+    let input = entry at-loop .args .input .now in
     let inside = at-loop-test .loop-test .taken in
-    let shown = now-shown at-count-up in
     let a = answered at-match in
     record {
       most = omega (arith, inside);
-      within = next-within (at-match .match .verdict) (omega (arith, at-if1 .if1 .left, i .within)) (k .kept .0) shown (k .ensures);
+      within = next-within number (at-match .match .verdict) (omega (arith, at-if1 .if1 .left, i .within)) (k .kept .0) (k .ensures);
       nothing = λ e. omega arith;
       none = λ h. refl;
       found = ap (λ (n : ℕ). l .feed + 1 + n) (c .find2 .ensures .0 ∙ ap (before lineFeed) (last-part input (l .feed + 1)));
-      shown = shown;
+      shown = now-shown at-count-up;
       tableSize = a .tableSize ∙ i .tableSize;
       scratchSize = a .scratchSize ∙ i .scratchSize;
       outSize = k .kept .0 ∙ i .outSize;
       tells =
           next-tells input (l .taken) (i .found) (l .out) (l .written) (i .tells) inside (at-request .request .ensures) (a .serves)
-          (at-next-number .next-number .ensures) shown (k .ensures);
+          (at-next-number .next-number .ensures) (k .ensures);
     }
 
 sub-keep : tie.Need-sub-keep Inv-loop μ-loop
@@ -214,9 +225,8 @@ returns-2 c =
     let at-keep = c .before in
     let at-loop-test = at-keep .before .before .before in
     let at-loop = at-loop-test .before in
-    let start = at-loop .before .before .before .before .before .before .before .before .before .before in
     let e = c .fed2 .ensures in
-    rw (e .0, e .1, e .2) (ended (at-loop .loop .inv) (at-loop-test .loop-test .left) (line-length start) (at-keep .keep .ensures))
+    rw (e .0, e .1, e .2) (ended (at-loop .loop .inv) (at-loop-test .loop-test .left) (line-length (entry at-loop)) (at-keep .keep .ensures))
 
 pub serve-lines-spec : {M : Type 1} → statement M
 serve-lines-spec =
@@ -241,7 +251,7 @@ serve-lines-spec =
     count-up-requires
     enum-told
     serve-requires
-    put-numbered-requires
+    put-line-requires
     add-taken
     sub-find
     part-find-start

@@ -1,16 +1,10 @@
 use mathlib.Core.Path.{_∙_}
-use Prim.Native.Nat.{_≤_}
 use native.Mathlib.Omega.{arith}
-use lib.ListN.{length, take}
-use lib.Seq.{length-take-le}
 use borrow.Author.Needs.{needs}
-use Rattle.line_text.specs.Texts.{mostDigits, verdictRoom}
-use Rattle.line_text.proofs.PutLaws.{put-both, put-within, verdict-length}
-use Rattle.line_text.proofs.texts.put_numbered.Statement.{statement}
-use Rattle.line_text.proofs.texts.put_numbered.Tie as tie
-
-shown : (c : tie.Start) → length (take (c .args .size) (c .args .text .now)) ≤ mostDigits
-shown c = omega (arith, length-take-le (c .args .size) (c .args .text .now) (omega arith))
+use Rattle.line_text.specs.Texts.{mostDigits, verdictRoom, outputLine}
+use Rattle.line_text.proofs.PutLaws.{put-both, put-within, digits-length, verdict-length}
+use Rattle.line_text.proofs.texts.put_line.Statement.{statement}
+use Rattle.line_text.proofs.texts.put_line.Tie as tie
 
 put-number-requires : tie.Need-put-number-requires
 put-number-requires c κs = search needs
@@ -21,14 +15,14 @@ slice-aggregate-put-word c = search needs
 put-word-requires : tie.Need-put-word-requires
 put-word-requires c κs =
     let start = c .before .before .before .before .before .before .before in
-    omega (arith, shown start)
+    omega (arith, digits-length mostDigits (start .args .number))
 
 put-verdict-requires : tie.Need-put-verdict-requires
 put-verdict-requires c κs =
     let at-put-word = c .before .before .before in
     let at-put-number = at-put-word .before .before .before .before .before in
     let start = at-put-number .before .before .before in
-    let numbered = put-within mostDigits (at-put-number .put-number .ensures) (shown start) in
+    let numbered = put-within mostDigits (at-put-number .put-number .ensures) (digits-length mostDigits (start .args .number)) in
     let spaced = at-put-word .put-word .ensures .ends in
     omega (arith, numbered, spaced, at-put-number .put-number .kept .0, at-put-word .put-word .kept .0, start .pre)
 
@@ -41,7 +35,7 @@ put-word-requires-2 c κs =
     let at-put-word = at-put-verdict .before .before .before .before in
     let at-put-number = at-put-word .before .before .before .before .before in
     let start = at-put-number .before .before .before in
-    let numbered = put-within mostDigits (at-put-number .put-number .ensures) (shown start) in
+    let numbered = put-within mostDigits (at-put-number .put-number .ensures) (digits-length mostDigits (start .args .number)) in
     let spaced = at-put-word .put-word .ensures .ends in
     let told = put-within verdictRoom (at-put-verdict .put-verdict .ensures) (verdict-length (start .args .verdict)) in
     let same = at-put-verdict .put-verdict .kept .0 ∙ at-put-word .put-word .kept .0 ∙ at-put-number .put-number .kept .0 in
@@ -51,6 +45,7 @@ same-length : tie.Need-same-length
 same-length c = search needs
 
 returns : tie.Need-returns
+unfolding outputLine
 returns c =
     let at-put-word2 = c .before .before in
     let at-put-verdict = at-put-word2 .before .before .before .before .before in
@@ -61,8 +56,8 @@ returns c =
     let told = put-both spaced (at-put-verdict .put-verdict .ensures) in
     put-both told (at-put-word2 .put-word2 .ensures)
 
-pub put-numbered-spec : {M : Type 1} → statement M
-put-numbered-spec =
+pub put-line-spec : {M : Type 1} → statement M
+put-line-spec =
     tie.close
     (tie.spec
     put-number-requires
