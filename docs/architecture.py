@@ -144,7 +144,7 @@ def call():
     d.box("write", 560, 262, 200, 62, "code", ["cells", "the first free cell", "gets both operands"])
     d.box("append", 790, 262, 200, 62, "code", ["queue::append", "one packet more:", "kind 2, (1, 0, 2)"])
     d.box("put", 20, 262, 190, 62, "text", ["line_text::put_line", "3 OK 2", "outputLine"])
-    d.box("verdict", 240, 262, 190, 62, "text", ["line_text::row_verdict", "a reply to a verdict", "verdictOf"])
+    d.box("verdict", 240, 262, 190, 62, "text", ["session_lines::after_row", "a reply to a verdict", "verdictOf"])
     for a, b in [("parse", "serve"), ("serve", "store"), ("store", "calls"), ("early", "late"), ("write", "append")]:
         x, y, w, h = d.boxes[a]
         u = d.boxes[b][0]

@@ -3,7 +3,6 @@ pub mod bytes;
 pub mod kept;
 pub mod parse;
 pub mod texts;
-pub mod verdicts;
 
 // A line's call with its operands, or any other line.
 pub enum Request {

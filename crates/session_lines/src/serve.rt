@@ -5,24 +5,31 @@ use calls::RowReply;
 use collector::Stepped;
 use line_text::Request;
 use line_text::Verdict;
-use line_text::verdicts::fresh_verdict;
-use line_text::verdicts::row_verdict;
-use line_text::verdicts::step_verdict;
+use machine::FreshAnswer;
 use machine::Queue;
+use machine::RowAnswer;
+use machine::StepAnswer;
 ghost use mathlib.Core.Path.{_≡_};
 ghost use Rattle.machine.specs.Calls.{store};
 ghost use Rattle.machine.specs.Answers.{rowReply, freshReply, stepReply};
 ghost use Rattle.line_text.specs.Verdicts.{verdictOf};
 ghost use Rattle.session_lines.specs.Serving.{Good, Serves};
 
+// An answer is told apart beside its queue, not by a function of its own: a copy of an answer just written would wait for the bytes.
 fn after_row(reply: RowReply) -> Answered
     ensures { λ r. ⌜ (r .verdict ≡ verdictOf (rowReply (reply .answer))) × (r .queue ≡ reply .queue) ⌝ }
 {
     let answer = reply.answer;
     let queue = reply.queue;
-    Answered {
-        verdict: row_verdict(answer),
-        queue: queue,
+    match answer {
+        RowAnswer::Done(w) => Answered {
+            verdict: Verdict::Ok(w),
+            queue: queue,
+        },
+        RowAnswer::Refused(refusal) => Answered {
+            verdict: Verdict::No(refusal.number()),
+            queue: queue,
+        },
     }
 }
 
@@ -31,9 +38,15 @@ fn after_fresh(reply: FreshReply) -> Answered
 {
     let answer = reply.answer;
     let queue = reply.queue;
-    Answered {
-        verdict: fresh_verdict(answer),
-        queue: queue,
+    match answer {
+        FreshAnswer::Done => Answered {
+            verdict: Verdict::Ok(0),
+            queue: queue,
+        },
+        FreshAnswer::Refused(refusal) => Answered {
+            verdict: Verdict::No(refusal.number()),
+            queue: queue,
+        },
     }
 }
 
@@ -42,9 +55,19 @@ fn after_step(reply: Stepped) -> Answered
 {
     let answer = reply.answer;
     let queue = reply.queue;
-    Answered {
-        verdict: step_verdict(answer),
-        queue: queue,
+    match answer {
+        StepAnswer::Idle => Answered {
+            verdict: Verdict::Idle,
+            queue: queue,
+        },
+        StepAnswer::Applied { kind: _, freed } => Answered {
+            verdict: Verdict::Ok(freed),
+            queue: queue,
+        },
+        StepAnswer::Refused(refusal) => Answered {
+            verdict: Verdict::No(refusal.number()),
+            queue: queue,
+        },
     }
 }
 
