@@ -52,11 +52,17 @@ long_queue() {
     repeated "up 1 1/down 1 1" 62
     repeated "up 1 1/step/down 1 1/step" "$lines"
 }
-# 64 packets wait, and every call is refused.
-full_queue() {
+# 64 packets wait, of one cell or of 32, and every call is refused.
+full_queue_of_one() {
     echo "fresh 64"; echo "cons 0 0"
     repeated "up 1 1" 63
     repeated "up 1 1/cons 1 1/car 1/down 1 1" "$lines"
+}
+full_queue_of_many() {
+    echo "fresh 64"
+    repeated "cons 0 0" 32
+    awk 'BEGIN { for (i = 1; i <= 32; i++) print "up " i " 1" }'
+    repeated "up 5 1/cons 7 9/car 30/down 18 1" "$lines"
 }
 # The stored session: many short sessions, lines that are no calls among them.
 stored() {
@@ -68,19 +74,23 @@ same() { # LINE
     repeated "$1" "$lines"
 }
 
-# The programs take turns, five times; the best of each counts.
+# First the outputs are compared; then the programs take turns, five times, writing to nowhere, so that the disk does not weigh. The best of each counts.
 measure() { # NAME C
     count=$(wc -l <"$work/in")
     row="| $1 | $2 | $count |"
+    target/bin/session <"$work/in" >"$work/ours"
+    for program in "$work/reference" $programs; do
+        "$program" <"$work/in" >"$work/theirs"
+        cmp -s "$work/ours" "$work/theirs" || { echo "outputs differ: $1 $2, $program" >&2; exit 1; }
+    done
     : >"$work/spent"
     for _ in 1 2 3 4 5; do
         column=0
         for program in target/bin/session "$work/reference" $programs; do
             column=$((column + 1))
             from=$(date +%s%N)
-            "$program" <"$work/in" >"$work/out$column"
+            "$program" <"$work/in" >/dev/null
             echo "$column $((($(date +%s%N) - from) / 1000))" >>"$work/spent"
-            cmp -s "$work/out1" "$work/out$column" || { echo "outputs differ: $1 $2, column $column" >&2; exit 1; }
         done
     done
     awk -v row="$row" -v n="$count" '
@@ -114,9 +124,11 @@ for c in 64 512 4096; do
     measure "rings made and given up" "$c"
 done
 long_queue >"$work/in"
-measure "63 packets waiting" 64
-full_queue >"$work/in"
-measure "64 packets waiting, all refused" 64
+measure "63 packets of one cell waiting" 64
+full_queue_of_one >"$work/in"
+measure "64 packets of one cell waiting, all refused" 64
+full_queue_of_many >"$work/in"
+measure "64 packets of 32 cells waiting, all refused" 64
 stored >"$work/in"
 measure "the stored session" "1 to 4,096"
 for line in "car 70" "step" "no call"; do
@@ -131,7 +143,7 @@ marking_round() { # C
         least=
         for _ in 1 2 3 4 5; do
             from=$(date +%s%N)
-            target/bin/session <"$work/in" >"$work/out1"
+            target/bin/session <"$work/in" >/dev/null
             spent=$((($(date +%s%N) - from) / 1000))
             if [ -z "$least" ] || [ "$spent" -lt "$least" ]; then least=$spent; fi
         done
