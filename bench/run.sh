@@ -123,6 +123,10 @@ for c in 64 512 4096; do
     rings "$c" >"$work/in"
     measure "rings made and given up" "$c"
 done
+for kind in full rings mixed; do
+    "$reference" generate 7 session "$kind" 64 "$lines" >"$work/in"
+    measure "sessions: $kind" 64
+done
 long_queue >"$work/in"
 measure "63 packets of one cell waiting" 64
 full_queue_of_one >"$work/in"
