@@ -47,11 +47,16 @@ fn put_word(out: &mut [u8], at: usize, word: &[u8]) -> usize
     at + i
 }
 
+// Most numbers have one digit, which needs no call.
 fn put_counted(out: &mut [u8], at: usize, word: &[u8], n: u16) -> usize
     requires { ⌜ (length (now word) ≡ wordLength) × (at + verdictRoom ≤ length (now out)) ⌝ }
     ensures { λ r. ⌜ Put (now (out .entry)) at (now (word .entry) ++ decimal n) (now (out .exit)) r ⌝ }
 {
     let end = put_word(out, at, word);
+    if n < 10 {
+        out[end] = b'0' + (n as u8);
+        return end + 1;
+    }
     put_digits(out, end, MOST_DIGITS, n as u64)
 }
 
