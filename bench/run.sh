@@ -74,7 +74,7 @@ same() { # LINE
     repeated "$1" "$lines"
 }
 
-# First the outputs are compared; then the programs take turns, five times, writing to nowhere, so that the disk does not weigh. The best of each counts.
+# First the outputs are compared; then the programs take turns, five times, reading from a file and writing to one. The best of each counts.
 measure() { # NAME C
     count=$(wc -l <"$work/in")
     row="| $1 | $2 | $count |"
@@ -89,7 +89,7 @@ measure() { # NAME C
         for program in target/bin/session "$work/reference" $programs; do
             column=$((column + 1))
             from=$(date +%s%N)
-            "$program" <"$work/in" >/dev/null
+            "$program" <"$work/in" >"$work/theirs"
             echo "$column $((($(date +%s%N) - from) / 1000))" >>"$work/spent"
         done
     done
@@ -147,7 +147,7 @@ marking_round() { # C
         least=
         for _ in 1 2 3 4 5; do
             from=$(date +%s%N)
-            target/bin/session <"$work/in" >/dev/null
+            target/bin/session <"$work/in" >"$work/ours"
             spent=$((($(date +%s%N) - from) / 1000))
             if [ -z "$least" ] || [ "$spent" -lt "$least" ]; then least=$spent; fi
         done
