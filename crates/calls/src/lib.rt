@@ -17,6 +17,7 @@ use machine::FreshAnswer;
 use machine::Queue;
 use machine::Refusal;
 use machine::RowAnswer;
+use machine::RowCall;
 use operands::tally_of;
 use queue::Packet;
 use tests::down_tests;
@@ -30,6 +31,7 @@ ghost use Rattle.machine.specs.Table.{header, right, firstFree, lastFree, table
 ghost use Rattle.machine.specs.Queue.{slots, appended};
 ghost use Rattle.machine.specs.Calls.{car, cdr, cons, setLeft, setRight, up, down, written};
 ghost use Rattle.queue.specs.Sums.{packetOf};
+ghost use Rattle.machine.specs.Answers.{callOf};
 ghost use Rattle.calls.specs.Early.{wordsNumber, cellNumber};
 ghost use Rattle.calls.specs.Called.{readCall, replaceCall, ReplaceKind, RowCalled, FreshCalled};
 
@@ -332,5 +334,20 @@ pub fn down(table: &[u16], queue: Queue, x: u16, n: u16) -> RowReply
     match asked {
         Asked::Yes => down_cell(table, queue, x, n),
         Asked::No(refusal) => refused(queue, refusal),
+    }
+}
+
+// Any row call.
+pub fn row(table: &mut [u16], queue: Queue, call: RowCall) -> RowReply
+    ensures { λ r. ⌜ RowCalled (now (table .entry)) queue (callOf call) (r .answer) (now (table .exit)) (r .queue) ⌝ }
+{
+    match call {
+        RowCall::Car(x) => car(table, queue, x),
+        RowCall::Cdr(x) => cdr(table, queue, x),
+        RowCall::Cons(x, y) => cons(table, queue, x, y),
+        RowCall::SetLeft(x, y) => set_left(table, queue, x, y),
+        RowCall::SetRight(x, y) => set_right(table, queue, x, y),
+        RowCall::Up(x, n) => up(table, queue, x, n),
+        RowCall::Down(x, n) => down(table, queue, x, n),
     }
 }

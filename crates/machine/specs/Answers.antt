@@ -1,9 +1,10 @@
--- For each enum answer the paper's number and values.
+-- For each enum of the code the paper's call, number or values.
 use Prim.Native.Nat.{ℕ}
 use Rattle.machine.specs.declared.Refusal.{Refusal}
 use Rattle.machine.specs.declared.Refusal.the-variants.{StoreOutOfRange, ScratchTooShort, NumberOutOfRange, IllegalWord, NotACell, NotHeld, QueueFull, NoFreeCell, HeldCountTooHigh, TooManyPointers}
 use Rattle.machine.specs.declared.Asked
 use Rattle.machine.specs.declared.Asked.{Asked}
+use Rattle.machine.specs.declared.RowCall as declared
 use Rattle.machine.specs.declared.RowAnswer
 use Rattle.machine.specs.declared.RowAnswer.{RowAnswer}
 use Rattle.machine.specs.declared.FreshAnswer
@@ -14,6 +15,7 @@ use Rattle.machine.specs.declared.AuditAnswer
 use Rattle.machine.specs.declared.AuditAnswer.{AuditAnswer}
 use Rattle.machine.specs.declared.Rule
 use Rattle.machine.specs.declared.Rule.{Rule}
+use Rattle.machine.specs.Calls.{RowCall, car, cdr, cons, setLeft, setRight, up, down}
 use Rattle.machine.specs.Calls.{Reply, value, refused, idle, applied, sound, broken}
 
 -- the question answered "no"
@@ -41,6 +43,16 @@ ruleNumber Rule.FreeChain = 2
 ruleNumber Rule.Packets = 3
 ruleNumber Rule.Pointers = 4
 ruleNumber Rule.Reached = 5
+
+-- the row call
+abbrev pub callOf : declared.RowCall → RowCall
+callOf (declared.RowCall.Car x) = car x
+callOf (declared.RowCall.Cdr x) = cdr x
+callOf (declared.RowCall.Cons x y) = cons x y
+callOf (declared.RowCall.SetLeft x y) = setLeft x y
+callOf (declared.RowCall.SetRight x y) = setRight x y
+callOf (declared.RowCall.Up x n) = up x n
+callOf (declared.RowCall.Down x n) = down x n
 
 abbrev pub rowReply : RowAnswer → Reply
 rowReply (RowAnswer.Done w) = value w

@@ -131,6 +131,17 @@ pub enum Asked {
     No(Refusal),
 }
 
+// A row program's call with its operands, as a value.
+pub enum RowCall {
+    Car(u16),
+    Cdr(u16),
+    Cons(u16, u16),
+    SetLeft(u16, u16),
+    SetRight(u16, u16),
+    Up(u16, u16),
+    Down(u16, u16),
+}
+
 // A row call's answer: the new cell, the word read, the word detached, else 0; or a refusal.
 pub enum RowAnswer {
     Done(u16),

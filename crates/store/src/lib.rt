@@ -5,9 +5,10 @@ use calls::RowReply;
 use collector::Stepped;
 use machine::AuditAnswer;
 use machine::Queue;
+use machine::RowCall;
 ghost use mathlib.Core.List.{[]};
 ghost use Rattle.machine.specs.Calls.{fresh, row, step, audit, car, cdr, cons, setLeft, setRight, up, down, store};
-ghost use Rattle.machine.specs.Answers.{freshReply, rowReply, stepReply, auditAnswerReply};
+ghost use Rattle.machine.specs.Answers.{callOf, freshReply, rowReply, stepReply, auditAnswerReply};
 ghost use Rattle.machine.specs.Promise.{Promise};
 
 pub fn fresh(table: &mut [u16], queue: Queue, c: u16) -> FreshReply
@@ -56,6 +57,13 @@ pub fn down(table: &[u16], queue: Queue, x: u16, n: u16) -> RowReply
     ensures { λ r. ⌜ Promise (store (now (table .entry)) queue []) (row (down x n)) (rowReply (r .answer)) (store (now (table .entry)) (r .queue) []) ⌝ }
 {
     calls::down(table, queue, x, n)
+}
+
+// Any row call, as a value.
+pub fn row(table: &mut [u16], queue: Queue, call: RowCall) -> RowReply
+    ensures { λ r. ⌜ Promise (store (now (table .entry)) queue []) (row (callOf call)) (rowReply (r .answer)) (store (now (table .exit)) (r .queue) []) ⌝ }
+{
+    calls::row(table, queue, call)
 }
 
 pub fn step(table: &mut [u16], queue: Queue, scratch: &mut [u16]) -> Stepped
