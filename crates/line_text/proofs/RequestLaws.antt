@@ -10,6 +10,8 @@ use lib.Dec.{leb, eqb}
 use lib.ListN.{length, take, drop, getD, length-drop}
 use lib.Seq.{take-all}
 use borrow.Author.Tests.{eq-eqb, ne-eqb, le-leb, lt-leb}
+use Rattle.machine.specs.declared.RowCall
+use Rattle.machine.specs.declared.RowCall.{RowCall}
 use Rattle.line_text.specs.declared.Operand
 use Rattle.line_text.specs.declared.Operand.{Operand}
 use Rattle.line_text.specs.declared.Request
@@ -30,11 +32,11 @@ module _ (k : List ℕ) (x : ℕ) where
   unfolding withOne
   one-fresh h₁ = rw (h₁)
 
-  pub one-car : isnt k "fresh" → is k "car" → Request.Car x ≡ withOne k x
+  pub one-car : isnt k "fresh" → is k "car" → Request.Row (RowCall.Car x) ≡ withOne k x
   unfolding withOne
   one-car h₁ h₂ = rw (h₁, h₂)
 
-  pub one-cdr : isnt k "fresh" → isnt k "car" → is k "cdr" → Request.Cdr x ≡ withOne k x
+  pub one-cdr : isnt k "fresh" → isnt k "car" → is k "cdr" → Request.Row (RowCall.Cdr x) ≡ withOne k x
   unfolding withOne
   one-cdr h₁ h₂ h₃ = rw (h₁, h₂, h₃)
 
@@ -43,23 +45,23 @@ module _ (k : List ℕ) (x : ℕ) where
   one-bad h₁ h₂ h₃ = rw (h₁, h₂, h₃)
 
 module _ (k : List ℕ) (x y : ℕ) where
-  pub two-cons : is k "cons" → Request.Cons x y ≡ withTwo k x y
+  pub two-cons : is k "cons" → Request.Row (RowCall.Cons x y) ≡ withTwo k x y
   unfolding withTwo
   two-cons h₁ = rw (h₁)
 
-  pub two-setl : isnt k "cons" → is k "setl" → Request.SetLeft x y ≡ withTwo k x y
+  pub two-setl : isnt k "cons" → is k "setl" → Request.Row (RowCall.SetLeft x y) ≡ withTwo k x y
   unfolding withTwo
   two-setl h₁ h₂ = rw (h₁, h₂)
 
-  pub two-setr : isnt k "cons" → isnt k "setl" → is k "setr" → Request.SetRight x y ≡ withTwo k x y
+  pub two-setr : isnt k "cons" → isnt k "setl" → is k "setr" → Request.Row (RowCall.SetRight x y) ≡ withTwo k x y
   unfolding withTwo
   two-setr h₁ h₂ h₃ = rw (h₁, h₂, h₃)
 
-  pub two-up : isnt k "cons" → isnt k "setl" → isnt k "setr" → is k "up" → Request.Up x y ≡ withTwo k x y
+  pub two-up : isnt k "cons" → isnt k "setl" → isnt k "setr" → is k "up" → Request.Row (RowCall.Up x y) ≡ withTwo k x y
   unfolding withTwo
   two-up h₁ h₂ h₃ h₄ = rw (h₁, h₂, h₃, h₄)
 
-  pub two-down : isnt k "cons" → isnt k "setl" → isnt k "setr" → isnt k "up" → is k "down" → Request.Down x y ≡ withTwo k x y
+  pub two-down : isnt k "cons" → isnt k "setl" → isnt k "setr" → isnt k "up" → is k "down" → Request.Row (RowCall.Down x y) ≡ withTwo k x y
   unfolding withTwo
   two-down h₁ h₂ h₃ h₄ h₅ = rw (h₁, h₂, h₃, h₄, h₅)
 

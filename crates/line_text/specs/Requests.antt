@@ -4,6 +4,8 @@ use mathlib.Core.List.{List, [], _∷_}
 use Prim.Native.Nat.{ℕ, _+_, _-_, _*_}
 use lib.Dec.{leb, eqb}
 use lib.ListN.{length}
+use Rattle.machine.specs.declared.RowCall
+use Rattle.machine.specs.declared.RowCall.{RowCall}
 use Rattle.line_text.specs.declared.Operand
 use Rattle.line_text.specs.declared.Operand.{Operand}
 use Rattle.line_text.specs.declared.Request
@@ -39,17 +41,17 @@ withNone k = cond (sameBytes k (ascii "step")) Request.Step Request.Bad
 unfoldable pub withOne : List ℕ → ℕ → Request
 withOne k x =
     cond (sameBytes k (ascii "fresh")) (Request.Fresh x)
-    (cond (sameBytes k (ascii "car")) (Request.Car x)
-    (cond (sameBytes k (ascii "cdr")) (Request.Cdr x)
+    (cond (sameBytes k (ascii "car")) (Request.Row (RowCall.Car x))
+    (cond (sameBytes k (ascii "cdr")) (Request.Row (RowCall.Cdr x))
     Request.Bad))
 
 unfoldable pub withTwo : List ℕ → ℕ → ℕ → Request
 withTwo k x y =
-    cond (sameBytes k (ascii "cons")) (Request.Cons x y)
-    (cond (sameBytes k (ascii "setl")) (Request.SetLeft x y)
-    (cond (sameBytes k (ascii "setr")) (Request.SetRight x y)
-    (cond (sameBytes k (ascii "up")) (Request.Up x y)
-    (cond (sameBytes k (ascii "down")) (Request.Down x y)
+    cond (sameBytes k (ascii "cons")) (Request.Row (RowCall.Cons x y))
+    (cond (sameBytes k (ascii "setl")) (Request.Row (RowCall.SetLeft x y))
+    (cond (sameBytes k (ascii "setr")) (Request.Row (RowCall.SetRight x y))
+    (cond (sameBytes k (ascii "up")) (Request.Row (RowCall.Up x y))
+    (cond (sameBytes k (ascii "down")) (Request.Row (RowCall.Down x y))
     Request.Bad))))
 
 abbrev pub ifOne : List ℕ → Operand → Request

@@ -3,6 +3,7 @@ use crate::Operand;
 use crate::Request;
 use crate::bytes::find;
 use crate::bytes::same;
+use machine::RowCall;
 ghost use mathlib.Core.Path.{_≡_};
 ghost use mathlib.Core.List.{_∷_};
 ghost use Rattle.line_text.specs.Bytes.{wordsOf};
@@ -62,10 +63,10 @@ fn with_one(word: &[u8], x: u16) -> Request
         return Request::Fresh(x);
     }
     if same(word, b"car") {
-        return Request::Car(x);
+        return Request::Row(RowCall::Car(x));
     }
     if same(word, b"cdr") {
-        return Request::Cdr(x);
+        return Request::Row(RowCall::Cdr(x));
     }
     Request::Bad
 }
@@ -74,19 +75,19 @@ fn with_two(word: &[u8], x: u16, y: u16) -> Request
     ensures { λ r. ⌜ r ≡ withTwo (now (word .entry)) x y ⌝ }
 {
     if same(word, b"cons") {
-        return Request::Cons(x, y);
+        return Request::Row(RowCall::Cons(x, y));
     }
     if same(word, b"setl") {
-        return Request::SetLeft(x, y);
+        return Request::Row(RowCall::SetLeft(x, y));
     }
     if same(word, b"setr") {
-        return Request::SetRight(x, y);
+        return Request::Row(RowCall::SetRight(x, y));
     }
     if same(word, b"up") {
-        return Request::Up(x, y);
+        return Request::Row(RowCall::Up(x, y));
     }
     if same(word, b"down") {
-        return Request::Down(x, y);
+        return Request::Row(RowCall::Down(x, y));
     }
     Request::Bad
 }

@@ -6,8 +6,10 @@ use mathlib.Core.List.{List, []}
 use Prim.Native.Nat.{ℕ, zero, suc}
 use lib.ListN.{length}
 use Rattle.machine.specs.declared.Queue.{Queue}
+use Rattle.machine.specs.declared.RowCall as declared
 use Rattle.machine.specs.Table.{capacity}
 use Rattle.machine.specs.Calls.{Call, fresh, row, step, audit, RowCall, Reply, refused, Store, store}
+use Rattle.machine.specs.Answers.{callOf}
 use Rattle.machine.specs.Step.{Outcome, outcome}
 use Rattle.machine.specs.Questions.{firstNo, inRange, early, late, questions}
 use Rattle.machine.specs.Machine.{accepted, answered, machine}
@@ -20,7 +22,7 @@ use Rattle.line_text.specs.declared.Request.{Request}
 use Rattle.line_text.specs.declared.Verdict
 use Rattle.line_text.specs.declared.Verdict.{Verdict}
 use Rattle.line_text.specs.Verdicts.{verdictOf}
-use Rattle.session_lines.specs.Listing.{Served, called, served}
+use Rattle.session_lines.specs.Listing.{called}
 use Rattle.session_lines.specs.Serving.{Good, Serves}
 
 -- reply and store are the machine's, and the store is good again
@@ -111,39 +113,33 @@ called-by : (s : Store) (call : Call) (r : Reply) (v : Verdict) (s′ : Store) �
 unfolding called
 called-by s call r v s′ er es ev = (ev ∙ ap verdictOf er, es)
 
--- what a caller makes of a reply: its verdict, beside the queue
-module _ {t : List ℕ} {q : Queue} {scratch t′ : List ℕ} {q′ q″ : Queue} {v : Verdict} {r : Reply}
-    (told : (v ≡ verdictOf r) × (q″ ≡ q′)) (g : Good t q) where
+-- what a caller makes of a reply
+module _ {t : List ℕ} {q : Queue} {scratch t′ : List ℕ} {q′ : Queue} {v : Verdict} {r : Reply} (told : v ≡ verdictOf r) (g : Good t q) where
   from-lent : (call : Call) → machine (store t q scratch) call ≡ beside t q scratch (machine (store t q []) call)
       → Promise (store t q []) call r (store t′ q′ [])
-      → (v ≡ called (store t q scratch) call .verdict) × (store t′ q″ scratch ≡ called (store t q scratch) call .after) × Good t′ q″
+      → (v ≡ called (store t q scratch) call .verdict) × (store t′ q′ scratch ≡ called (store t q scratch) call .after) × Good t′ q′
   from-lent call b p =
       let e = exact (store t q []) call r (store t′ q′ []) p g in
       let reply = e .reply ∙ sym (ap (λ (o : Outcome). o .reply) b) in
-      let after =
-      ap (λ (x : Queue). store t′ x scratch) (told .1)
-      ∙ ap (λ (x : Store). store (x .table) (x .queue) scratch) (e .after)
-      ∙ sym (ap (λ (o : Outcome). o .after) b) in
-      let k = called-by (store t q scratch) call r v (store t′ q″ scratch) reply after (told .0) in
-      (k .0, k .1, rw (told .1) (e .good))
+      let after = ap (λ (x : Store). store (x .table) (x .queue) scratch) (e .after) ∙ sym (ap (λ (o : Outcome). o .after) b) in
+      let k = called-by (store t q scratch) call r v (store t′ q′ scratch) reply after told in
+      (k .0, k .1, e .good)
 
-  pub fresh-serves : {c : ℕ} → Promise (store t q []) (fresh c) r (store t′ q′ []) → Serves (store t q scratch) (Request.Fresh c) v (store t′ q″ scratch)
+  pub fresh-serves : {c : ℕ} → Promise (store t q []) (fresh c) r (store t′ q′ []) → Serves (store t q scratch) (Request.Fresh c) v (store t′ q′ scratch)
   fresh-serves {c} p = let d = from-lent (fresh c) (fresh-beside t q scratch c) p in record { verdict = d .0; after = d .1; good = d .2 }
 
-  pub row-serves : {k : RowCall} (request : Request) → served (store t q scratch) request ≡ called (store t q scratch) (row k)
-      → Promise (store t q []) (row k) r (store t′ q′ [])
-      → Serves (store t q scratch) request v (store t′ q″ scratch)
-  row-serves {k} request e p =
-      let d = from-lent (row k) (row-beside t q scratch k) p in
-      record { verdict = rw e (d .0); after = rw e (d .1); good = d .2 }
+  pub row-serves : {call : declared.RowCall} → Promise (store t q []) (row (callOf call)) r (store t′ q′ [])
+      → Serves (store t q scratch) (Request.Row call) v (store t′ q′ scratch)
+  row-serves {call} p =
+      let d = from-lent (row (callOf call)) (row-beside t q scratch (callOf call)) p in
+      record { verdict = d .0; after = d .1; good = d .2 }
 
   pub step-serves : {scratch′ : List ℕ} → Promise (store t q scratch) step r (store t′ q′ scratch′)
-      → Serves (store t q scratch) Request.Step v (store t′ q″ scratch′)
+      → Serves (store t q scratch) Request.Step v (store t′ q′ scratch′)
   step-serves {scratch′} p =
       let e = exact (store t q scratch) step r (store t′ q′ scratch′) p g in
-      let after = ap (λ (x : Queue). store t′ x scratch′) (told .1) ∙ e .after in
-      let k = called-by (store t q scratch) step r v (store t′ q″ scratch′) (e .reply) after (told .0) in
-      record { verdict = k .0; after = k .1; good = rw (told .1) (e .good) }
+      let k = called-by (store t q scratch) step r v (store t′ q′ scratch′) (e .reply) (e .after) told in
+      record { verdict = k .0; after = k .1; good = e .good }
 
 pub bad-serves : {t : List ℕ} {q : Queue} {scratch : List ℕ} → Good t q → Serves (store t q scratch) Request.Bad Verdict.Bad (store t q scratch)
 bad-serves g = record { verdict = refl; after = refl; good = g }
@@ -155,18 +151,11 @@ pub record Answers (t : List ℕ) (queue : Queue) (scratch : List ℕ) (request 
   pub tableSize : length t′ ≡ length t
   pub scratchSize : length scratch′ ≡ length scratch
 
--- a line that asks for nothing leaves all as it is
-pub bad-answers : {t : List ℕ} {queue : Queue} {scratch : List ℕ} {request : Request} → request ≡ Request.Bad
-    → Answers t queue scratch request Verdict.Bad t queue scratch
-bad-answers e = record { serves = λ g. rw e (bad-serves g); tableSize = refl; scratchSize = refl }
-
-pub call-answers : {t : List ℕ} {queue : Queue} {scratch : List ℕ} {request : Request} {v : Verdict} {t′ : List ℕ} {queue′ : Queue} {scratch′ : List ℕ}
-    → (Good t queue → Serves (store t queue scratch) request v (store t′ queue′ scratch′)) → length t′ ≡ length t → length scratch′ ≡ length scratch
-    → Answers t queue scratch request v t′ queue′ scratch′
-call-answers serves t scratch = record { serves = serves; tableSize = t; scratchSize = scratch }
-
--- the table, the scratch, the queue and the verdict by other names
-pub answers-same : {t : List ℕ} {queue : Queue} {scratch : List ℕ} {request : Request} {v w : Verdict} {t′ u : List ℕ} {queue′ q : Queue}
+-- as the request that it was told to be; the table, the scratch, the queue and the verdict by other names
+pub answers : {t : List ℕ} {queue : Queue} {scratch : List ℕ} {request asked : Request} {v w : Verdict} {t′ u : List ℕ} {queue′ q : Queue}
     {scratch′ z : List ℕ}
-    → t′ ≡ u → scratch′ ≡ z → queue′ ≡ q → v ≡ w → Answers t queue scratch request w u q z → Answers t queue scratch request v t′ queue′ scratch′
-answers-same et es eq ev a = rw (et, es, eq, ev) a
+    → request ≡ asked → t′ ≡ u → scratch′ ≡ z → queue′ ≡ q → v ≡ w
+    → (Good t queue → Serves (store t queue scratch) asked w (store u q z)) → length u ≡ length t → length z ≡ length scratch
+    → Answers t queue scratch request v t′ queue′ scratch′
+answers er et es eq ev serves tableSize scratchSize =
+    rw (er, et, es, eq, ev) (record { serves = serves; tableSize = tableSize; scratchSize = scratchSize })

@@ -5,8 +5,8 @@ use lib.ListN.{replicate}
 use Rattle.machine.specs.Words.{mostCells}
 use Rattle.machine.specs.Table.{tableLength, scratchWords}
 use Rattle.machine.specs.Queue.{emptyQueue}
-use Rattle.machine.specs.Calls.{Call, fresh, row, step, RowCall, car, cdr, cons, setLeft, setRight, up, down}
-use Rattle.machine.specs.Calls.{Store, store}
+use Rattle.machine.specs.Calls.{Call, fresh, row, step, Store, store}
+use Rattle.machine.specs.Answers.{callOf}
 use Rattle.machine.specs.Machine.{machine}
 use Rattle.line_text.specs.declared.Request
 use Rattle.line_text.specs.declared.Request.{Request}
@@ -27,13 +27,7 @@ called s call = let o = machine s call in record { verdict = verdictOf (o .reply
 
 abbrev pub served : Store → Request → Served
 served s (Request.Fresh c) = called s (fresh c)
-served s (Request.Car x) = called s (row (car x))
-served s (Request.Cdr x) = called s (row (cdr x))
-served s (Request.Cons x y) = called s (row (cons x y))
-served s (Request.SetLeft x y) = called s (row (setLeft x y))
-served s (Request.SetRight x y) = called s (row (setRight x y))
-served s (Request.Up x n) = called s (row (up x n))
-served s (Request.Down x n) = called s (row (down x n))
+served s (Request.Row call) = called s (row (callOf call))
 served s Request.Step = called s step
 served s Request.Bad = record { verdict = Verdict.Bad; after = s }
 

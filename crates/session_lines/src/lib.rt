@@ -1,8 +1,7 @@
 // The session's lines: bytes in, bytes out. The definition of what comes out is specs/Listing.antt.
 mod lines;
-mod serve;
+mod verdicts;
 
-use line_text::Verdict;
 use line_text::kept::KEPT_BYTES;
 use line_text::kept::capped;
 use lines::serve_lines;
@@ -12,12 +11,6 @@ ghost use Prim.Native.Nat.{_≤_};
 ghost use lib.ListN.{length};
 ghost use Rattle.line_text.specs.Texts.{room};
 ghost use Rattle.session_lines.specs.Progress.{started, Feeds, Finishes};
-
-// A served request's verdict beside the queue.
-pub struct Answered {
-    pub verdict: Verdict,
-    pub queue: Queue,
-}
 
 // What is carried from one part of the input to the next: the first bytes of the present line, the number of lines before it, and the queue.
 pub struct Session {

@@ -1,7 +1,9 @@
 // Lines served where they lie in the input.
 use crate::Fed;
 use crate::Session;
-use crate::serve::serve;
+use crate::verdicts::fresh_verdict;
+use crate::verdicts::row_verdict;
+use crate::verdicts::step_verdict;
 use line_text::Request;
 use line_text::Verdict;
 use line_text::bytes::find;
@@ -87,10 +89,26 @@ pub fn serve_lines(
         lines = next_number(lines);
         size = count_up(&mut number, size, lines);
         let mut verdict = Verdict::Bad;
-        if let Request::Bad = asked {} else {
-            let answered = serve(asked, table, queue, scratch);
-            queue = answered.queue;
-            verdict = answered.verdict;
+        match asked {
+            Request::Bad => {}
+            Request::Fresh(c) => {
+                let reply = store::fresh(table, queue, c);
+                queue = reply.queue;
+                let answer = reply.answer;
+                verdict = fresh_verdict(answer);
+            }
+            Request::Row(call) => {
+                let reply = store::row(table, queue, call);
+                queue = reply.queue;
+                let answer = reply.answer;
+                verdict = row_verdict(answer);
+            }
+            Request::Step => {
+                let reply = store::step(table, queue, scratch);
+                queue = reply.queue;
+                let answer = reply.answer;
+                verdict = step_verdict(answer);
+            }
         }
         written = put_line(out, written, &number, size, lines, verdict);
         taken = feed + 1;

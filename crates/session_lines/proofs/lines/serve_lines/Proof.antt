@@ -8,7 +8,7 @@ use Rattle.line_text.specs.Bytes.{lineFeed, before}
 use Rattle.line_text.specs.Kept.{keptBytes}
 use Rattle.line_text.specs.Put.{ShowsTens}
 use Rattle.line_text.proofs.RequestLaws.{last-part, last-part-length}
-use Rattle.session_lines.proofs.ServeLaws.{Answers, bad-answers, call-answers, answers-same}
+use Rattle.session_lines.proofs.ServeLaws.{Answers, answers, fresh-serves, row-serves, step-serves, bad-serves}
 use Rattle.session_lines.specs.Progress.{sessionOf}
 use Rattle.session_lines.proofs.FeedLaws.{Going, next-tells, next-within, stopped, ended}
 use Rattle.session_lines.proofs.TellsLaws.{tells-none}
@@ -42,7 +42,7 @@ now-shown c =
     let en = at-next-number .next-number .ensures in
     c .count-up .ensures (l .lines) (l .inv .shown) (en .least) (en .most)
 
--- by either way the request is answered
+-- by each arm the request is answered
 answered :
     (c : tie.At-match-came Inv-loop μ-loop) →
     Answers
@@ -56,8 +56,14 @@ answered :
     (c .match .scratch)
 answered c =
     ⊎-elim
-    (λ w. answers-same (w .2) (w .3) (w .4) (w .5) (bad-answers (w .1 .given .1)))
-    (λ w. answers-same (w .9) (w .10) (w .11) (w .12) (call-answers (w .3 .ensures) (w .3 .kept .1 .0) (w .3 .kept .1 .1 .1 .0)))
+    (λ w. answers (w .1 .given .1) (w .2) (w .3) (w .4) (w .5) bad-serves refl refl)
+    (⊎-elim
+    (λ w. answers (w .1 .given .1) (w .9) (w .10) (w .11) (w .12) (λ g. fresh-serves (w .8 .ensures) g (w .4 .ensures)) (w .4 .kept .0) refl)
+    (⊎-elim
+    (λ w. answers (w .1 .given .1) (w .9) (w .10) (w .11) (w .12) (λ g. row-serves (w .8 .ensures) g (w .4 .ensures)) (w .4 .kept .0) refl)
+    (λ w.
+    answers (w .1 .given .1) (w .11) (w .12) (w .13) (w .14) (λ g. step-serves (w .10 .ensures) g (w .4 .ensures)) (w .4 .kept .0)
+    (w .4 .kept .1 .1 .0))))
     (c .match .came)
 
 number-text-requires : tie.Need-number-text-requires Inv-loop μ-loop
@@ -125,8 +131,32 @@ count-up-requires c κs = search needs
 enum-told : tie.Need-enum-told Inv-loop μ-loop
 enum-told c = search needs
 
-serve-requires : tie.Need-serve-requires Inv-loop μ-loop
-serve-requires c κs = search needs
+enum-known-asked : tie.Need-enum-known-asked Inv-loop μ-loop
+enum-known-asked c = search needs
+
+fresh-requires : tie.Need-fresh-requires Inv-loop μ-loop
+fresh-requires c κs = search needs
+
+fresh-verdict-requires : tie.Need-fresh-verdict-requires Inv-loop μ-loop
+fresh-verdict-requires c κs = search needs
+
+enum-known-asked-2 : tie.Need-enum-known-asked-2 Inv-loop μ-loop
+enum-known-asked-2 c = search needs
+
+row-requires : tie.Need-row-requires Inv-loop μ-loop
+row-requires c κs = search needs
+
+row-verdict-requires : tie.Need-row-verdict-requires Inv-loop μ-loop
+row-verdict-requires c κs = search needs
+
+enum-told-2 : tie.Need-enum-told-2 Inv-loop μ-loop
+enum-told-2 c = search needs
+
+step-requires : tie.Need-step-requires Inv-loop μ-loop
+step-requires c κs = search needs
+
+step-verdict-requires : tie.Need-step-verdict-requires Inv-loop μ-loop
+step-verdict-requires c κs = search needs
 
 put-line-requires : tie.Need-put-line-requires Inv-loop μ-loop
 put-line-requires c κs =
@@ -250,7 +280,15 @@ serve-lines-spec =
     next-number-requires
     count-up-requires
     enum-told
-    serve-requires
+    enum-known-asked
+    fresh-requires
+    fresh-verdict-requires
+    enum-known-asked-2
+    row-requires
+    row-verdict-requires
+    enum-told-2
+    step-requires
+    step-verdict-requires
     put-line-requires
     add-taken
     sub-find

@@ -1,7 +1,6 @@
-use mathlib.Core.Path.{refl}
 use borrow.Author.Needs.{needs}
-use Rattle.session_lines.proofs.serve.after_fresh.Statement.{statement}
-use Rattle.session_lines.proofs.serve.after_fresh.Tie as tie
+use Rattle.session_lines.proofs.verdicts.fresh_verdict.Statement.{statement}
+use Rattle.session_lines.proofs.verdicts.fresh_verdict.Tie as tie
 
 enum-told : tie.Need-enum-told
 enum-told c = search needs
@@ -16,8 +15,8 @@ returns : tie.Need-returns
 returns c = search needs
 
 returns-2 : tie.Need-returns-2
-returns-2 c = (rw (c .before .before .answer .given .1, c .number .ensures), refl)
+returns-2 c = rw (c .before .before .answer .given .1, c .number .ensures)
 
-pub after-fresh-spec : {M : Type 1} → statement M
-after-fresh-spec =
+pub fresh-verdict-spec : {M : Type 1} → statement M
+fresh-verdict-spec =
     tie.close (tie.spec enum-told enum-known-answer number-requires returns returns-2)

@@ -1,7 +1,6 @@
-use mathlib.Core.Path.{refl}
 use borrow.Author.Needs.{needs}
-use Rattle.session_lines.proofs.serve.after_row.Statement.{statement}
-use Rattle.session_lines.proofs.serve.after_row.Tie as tie
+use Rattle.session_lines.proofs.verdicts.row_verdict.Statement.{statement}
+use Rattle.session_lines.proofs.verdicts.row_verdict.Tie as tie
 
 enum-known-answer : tie.Need-enum-known-answer
 enum-known-answer c = search needs
@@ -13,11 +12,11 @@ number-requires : tie.Need-number-requires
 number-requires c κs = search needs
 
 returns : tie.Need-returns
-returns c = (rw (c .before .answer .given .1), refl)
+returns c = rw (c .before .answer .given .1)
 
 returns-2 : tie.Need-returns-2
-returns-2 c = (rw (c .before .before .answer2 .given .1, c .number .ensures), refl)
+returns-2 c = rw (c .before .before .answer2 .given .1, c .number .ensures)
 
-pub after-row-spec : {M : Type 1} → statement M
-after-row-spec =
+pub row-verdict-spec : {M : Type 1} → statement M
+row-verdict-spec =
     tie.close (tie.spec enum-known-answer enum-known-answer-2 number-requires returns returns-2)

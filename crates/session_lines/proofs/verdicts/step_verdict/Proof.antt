@@ -1,7 +1,6 @@
-use mathlib.Core.Path.{refl}
 use borrow.Author.Needs.{needs}
-use Rattle.session_lines.proofs.serve.after_step.Statement.{statement}
-use Rattle.session_lines.proofs.serve.after_step.Tie as tie
+use Rattle.session_lines.proofs.verdicts.step_verdict.Statement.{statement}
+use Rattle.session_lines.proofs.verdicts.step_verdict.Tie as tie
 
 enum-told : tie.Need-enum-told
 enum-told c = search needs
@@ -19,13 +18,13 @@ returns : tie.Need-returns
 returns c = search needs
 
 returns-2 : tie.Need-returns-2
-returns-2 c = (rw (c .before .answer .given .1), refl)
+returns-2 c = rw (c .before .answer .given .1)
 
 returns-3 : tie.Need-returns-3
-returns-3 c = (rw (c .before .before .answer2 .given .1, c .number .ensures), refl)
+returns-3 c = rw (c .before .before .answer2 .given .1, c .number .ensures)
 
-pub after-step-spec : {M : Type 1} → statement M
-after-step-spec =
+pub step-verdict-spec : {M : Type 1} → statement M
+step-verdict-spec =
     tie.close
     (tie.spec
     enum-told
