@@ -151,7 +151,7 @@ pub record Answers (t : List ℕ) (queue : Queue) (scratch : List ℕ) (request 
   pub tableSize : length t′ ≡ length t
   pub scratchSize : length scratch′ ≡ length scratch
 
--- as the request that it was told to be; the table, the scratch, the queue and the verdict by other names
+-- from what an arm knows: which request it is, and what table, scratch, queue and verdict are after it
 pub answers : {t : List ℕ} {queue : Queue} {scratch : List ℕ} {request asked : Request} {v w : Verdict} {t′ u : List ℕ} {queue′ q : Queue}
     {scratch′ z : List ℕ}
     → request ≡ asked → t′ ≡ u → scratch′ ≡ z → queue′ ≡ q → v ≡ w

@@ -19,7 +19,9 @@ use line_text::texts::put_line;
 use machine::Queue;
 ghost use mathlib.Core.Path.{_≡_};
 ghost use mathlib.Core.List.{_++_};
-ghost use lib.ListN.{length, take};
+ghost use Prim.Native.Nat.{_+_, _≤_};
+ghost use lib.ListN.{length, take, drop};
+ghost use Rattle.line_text.specs.Bytes.{lineFeed, before};
 ghost use Rattle.line_text.specs.Requests.{requestOf};
 ghost use Rattle.line_text.specs.Kept.{keptBytes};
 ghost use Rattle.session_lines.specs.Progress.{sessionOf, FeedsLines};
@@ -35,6 +37,14 @@ fn request(line: &[u8; KEPT_BYTES], held: usize, part: &[u8]) -> Request
     let mut whole = *line;
     let size = keep(&mut whole, held, part);
     parse(&whole[..size])
+}
+
+// The place of the first line feed of what is not yet taken, or the input's length where there is none.
+fn next_feed(input: &[u8], taken: usize) -> usize
+    requires { ⌜ taken ≤ length (now input) ⌝ }
+    ensures { λ r. ⌜ r ≡ taken + before lineFeed (drop taken (now (input .entry))) ⌝ }
+{
+    taken + find(&input[taken..], b'\n')
 }
 
 fn fed(
@@ -59,8 +69,8 @@ fn fed(
     }
 }
 
-// Each whole line is parsed where it lies, and what follows the last line feed is held. The queue is large and goes by value: so the loop's body
-// is no function of its own, and a line that asks for nothing leaves the queue where it is.
+// Each whole line is parsed where it lies, and what follows the last line feed is held. The queue is large and goes by value, at a copy for each
+// function that is handed it: so the loop serves a request itself, and a line that asks for nothing leaves the queue where it is.
 pub fn serve_lines(
     session: Session,
     table: &mut [u16],
@@ -79,7 +89,7 @@ pub fn serve_lines(
     let mut size = number_text(&mut number, lines);
     let mut taken = 0;
     let mut written = 0;
-    let mut feed = find(input, b'\n');
+    let mut feed = next_feed(input, taken);
     while feed < input.len() {
         if out.len() - written < ROOM {
             return fed(line, held, lines, queue, taken, written);
@@ -112,7 +122,7 @@ pub fn serve_lines(
         }
         written = put_line(out, written, &number, size, lines, verdict);
         taken = feed + 1;
-        feed = taken + find(&input[taken..], b'\n');
+        feed = next_feed(input, taken);
     }
     held = keep(&mut line, held, &input[taken..]);
     fed(line, held, lines, queue, input.len(), written)

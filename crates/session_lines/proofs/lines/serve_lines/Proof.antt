@@ -1,13 +1,11 @@
-use mathlib.Core.Path.{_≡_, refl, ap, _∙_}
+use mathlib.Core.Path.{_≡_, refl, _∙_}
 use mathlib.Core.Logic.{⊎-elim}
-use Prim.Native.Nat.{ℕ, _+_, _-_, _<_}
+use Prim.Native.Nat.{_-_, _<_}
 use native.Mathlib.Omega.{arith}
 use lib.ListN.{length}
 use borrow.Author.Needs.{needs}
-use Rattle.line_text.specs.Bytes.{lineFeed, before}
 use Rattle.line_text.specs.Kept.{keptBytes}
 use Rattle.line_text.specs.Put.{ShowsTens}
-use Rattle.line_text.proofs.RequestLaws.{last-part, last-part-length}
 use Rattle.session_lines.proofs.ServeLaws.{Answers, answers, fresh-serves, row-serves, step-serves, bad-serves}
 use Rattle.session_lines.specs.Progress.{sessionOf}
 use Rattle.session_lines.proofs.FeedLaws.{Going, next-tells, next-within, stopped, ended}
@@ -69,8 +67,8 @@ answered c =
 number-text-requires : tie.Need-number-text-requires Inv-loop μ-loop
 number-text-requires c κs = search needs
 
-find-requires : tie.Need-find-requires Inv-loop μ-loop
-find-requires c κs = search needs
+next-feed-requires : tie.Need-next-feed-requires Inv-loop μ-loop
+next-feed-requires c κs = omega arith
 
 loop-holds : tie.Need-loop-holds Inv-loop μ-loop
 loop-holds c =
@@ -79,7 +77,7 @@ loop-holds c =
       within = omega arith;
       nothing = λ e. refl;
       none = λ h. absurd (never h);
-      found = omega (arith, c .find .ensures .0);
+      found = c .next-feed .ensures;
       shown = c .before .number-text .ensures;
       tableSize = refl;
       scratchSize = refl;
@@ -169,34 +167,17 @@ add-taken c =
     let at-loop-test = turn (c .before .before .before .before .before) in
     omega (arith, at-loop-test .loop-test .taken, entry (at-loop-test .before) .good)
 
-sub-find : tie.Need-sub-find Inv-loop μ-loop
-sub-find c = search needs
-
-part-find-start : tie.Need-part-find-start Inv-loop μ-loop
-part-find-start c = search needs
-
-part-find-end : tie.Need-part-find-end Inv-loop μ-loop
-part-find-end c = search needs
-
-find-requires-2 : tie.Need-find-requires-2 Inv-loop μ-loop
-find-requires-2 c κs = search needs
-
-add-feed : tie.Need-add-feed Inv-loop μ-loop
-add-feed c =
-    let at-loop-test = turn (c .before .before .before .before .before .before .before) in
-    let at-loop = at-loop-test .before in
-    let input = entry at-loop .args .input .now in
-    let left = last-part-length input (at-loop .loop .feed + 1) in
-    omega (arith, c .find2 .ensures .1, left, at-loop-test .loop-test .taken, entry at-loop .good)
+next-feed-requires-2 : tie.Need-next-feed-requires-2 Inv-loop μ-loop
+next-feed-requires-2 c κs = let at-loop-test = turn (c .before .before .before .before .before) in omega (arith, at-loop-test .loop-test .taken)
 
 loop-less : tie.Need-loop-less Inv-loop μ-loop
 loop-less c =
-    let at-loop-test = turn (c .before .before .before .before .before .before .before) in
+    let at-loop-test = turn (c .before .before .before .before .before .before) in
     omega (arith, at-loop-test .before .loop .inv .found, at-loop-test .loop-test .taken)
 
 loop-again : tie.Need-loop-again Inv-loop μ-loop
 loop-again c =
-    let at-put = c .before .before .before .before in
+    let at-put = c .before .before .before in
     let at-match = at-put .before .before .before in
     let at-count-up = at-match .before in
     let at-next-number = at-count-up .before .before in
@@ -216,7 +197,7 @@ loop-again c =
       within = next-within number (at-match .match .verdict) (omega (arith, at-if1 .if1 .left, i .within)) (k .kept .0) (k .ensures);
       nothing = λ e. omega arith;
       none = λ h. refl;
-      found = ap (λ (n : ℕ). l .feed + 1 + n) (c .find2 .ensures .0 ∙ ap (before lineFeed) (last-part input (l .feed + 1)));
+      found = c .next-feed2 .ensures;
       shown = now-shown at-count-up;
       tableSize = a .tableSize ∙ i .tableSize;
       scratchSize = a .scratchSize ∙ i .scratchSize;
@@ -265,7 +246,7 @@ serve-lines-spec =
     Inv-loop
     μ-loop
     number-text-requires
-    find-requires
+    next-feed-requires
     loop-holds
     sub-if1
     fed-requires
@@ -291,11 +272,7 @@ serve-lines-spec =
     step-verdict-requires
     put-line-requires
     add-taken
-    sub-find
-    part-find-start
-    part-find-end
-    find-requires-2
-    add-feed
+    next-feed-requires-2
     loop-less
     loop-again
     sub-keep
