@@ -71,6 +71,17 @@ module _ (b : ℕ) (s : List ℕ) (i : ℕ) where
   unfolding before
   before-end h = rw (drop-of-length-le s h) (omega arith)
 
+-- the first j bytes are no b
+abbrev pub Past : ℕ → List ℕ → ℕ → Type 0
+Past b s j = j + before b (drop j s) ≡ before b s
+
+module _ (b : ℕ) (s : List ℕ) (j : ℕ) (p : Past b s j) where
+  pub past-next : (k : ℕ) → k ≡ j + 1 → j < length s → (getD s j 0 ≡ b → ⊥) → Past b s k
+  past-next k e h other = rw e (sym (before-step b s j h other) ∙ p)
+
+  pub past-found : j < length s → getD s j 0 ≡ b → j ≡ before b s
+  past-found h e = sym (before-found b s j h e) ∙ p
+
 -- a number that is too large stays so
 pub number-large : (v : ℕ) (s : List ℕ) → mostOperand < v → numberFrom v s ≡ Operand.Nothing
 unfolding numberFrom
