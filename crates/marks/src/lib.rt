@@ -5,12 +5,11 @@ pub mod roots;
 use crate::pending::follow;
 use crate::pending::push_named;
 use crate::pending::push_rooted;
-use machine::Queue;
 ghost use mathlib.Core.Path.{_≡_};
 ghost use Prim.Native.Nat.{suc, _≤_};
 ghost use lib.ListN.{length};
 ghost use Rattle.machine.specs.Table.{scratchWords};
-ghost use Rattle.machine.specs.Queue.{waiting};
+ghost use Rattle.machine.specs.Queue.{queueOf, waiting};
 ghost use Rattle.machine.specs.Step.{cleared};
 ghost use Rattle.machine.specs.Facts.{Lent};
 ghost use Rattle.marks.specs.Marks.{isMarked, Marks};
@@ -28,16 +27,25 @@ pub fn clear(scratch: &mut [u16], c: u16)
     }
 }
 
-// Every reached cell marked, from a scratch that holds anything.
-pub fn mark(table: &[u16], queue: Queue, scratch: &mut [u16])
-    requires { ⌜ Lent (now table) queue (now scratch) ⌝ }
-    ensures { λ r. ⌜ Marks (now (table .entry)) (waiting queue) (now (scratch .entry)) (now (scratch .exit)) ⌝ }
+// Every reached cell marked, from a scratch that holds anything. The queue is lent as its arrays, with its place and count.
+pub fn mark<'q>(
+    table: &[u16],
+    kinds: &'q [u16; 64],
+    a: &'q [u16; 64],
+    b: &'q [u16; 64],
+    c: &'q [u16; 64],
+    place: u16,
+    count: u16,
+    scratch: &mut [u16],
+)
+    requires { ⌜ Lent (now table) (queueOf (now kinds) (now a) (now b) (now c) place count) (now scratch) ⌝ }
+    ensures { λ r. ⌜ Marks (now (table .entry)) (waiting (queueOf (now (kinds .entry)) (now (a .entry)) (now (b .entry)) (now (c .entry)) place count)) (now (scratch .entry)) (now (scratch .exit)) ⌝ }
 {
-    let c = cells::capacity_of(table);
-    clear(scratch, c);
-    let first = push_rooted(table, scratch, c);
-    let top = push_named(queue, scratch, c, first);
-    follow(table, scratch, c, top);
+    let capacity = cells::capacity_of(table);
+    clear(scratch, capacity);
+    let first = push_rooted(table, scratch, capacity);
+    let top = push_named(kinds, a, b, c, place, count, scratch, capacity, first);
+    follow(table, scratch, capacity, top);
 }
 
 pub fn is_marked(scratch: &[u16], index: usize) -> bool

@@ -1,14 +1,13 @@
 // The pending cells, met and not followed yet, threaded through the scratch (specs/Stack.antt). Each cell is pushed and popped once.
 use crate::roots::names_of;
 use crate::roots::rooted;
-use machine::Queue;
 use questions::is_cell;
 ghost use mathlib.Core.Path.{_≡_};
 ghost use Prim.Native.Nat.{_+_, _<_, _≤_};
 ghost use lib.ListN.{length};
 ghost use Rattle.machine.specs.Words.{mostCells};
 ghost use Rattle.machine.specs.Table.{tableLength, scratchWords};
-ghost use Rattle.machine.specs.Queue.{packet, waiting};
+ghost use Rattle.machine.specs.Queue.{packet, queueOf, waiting};
 ghost use Rattle.machine.specs.Facts.{QueueShape};
 ghost use Rattle.marks.specs.Names.{threeNames};
 ghost use Rattle.marks.specs.Stack.{stack, pushed, pushedAll, pushedIfRooted, pushedRooted, pushedNamed, visited, Pushes, Visitable, Followable, Follows};
@@ -65,25 +64,25 @@ fn push_names(scratch: &mut [u16], n: u16, top: u16, kind: u16, a: u16, b: u16, 
 }
 
 // The cells that waiting packets name.
-pub(crate) fn push_named(queue: Queue, scratch: &mut [u16], c: u16, first: u16) -> u16
-    requires { ⌜ QueueShape queue × (scratchWords c ≤ length (now scratch)) × (c ≤ mostCells) × (first ≤ c) ⌝ }
-    ensures { λ r. ⌜ Pushes c (stack (now (scratch .exit)) r) (pushedNamed c (waiting queue) (stack (now (scratch .entry)) first)) ⌝ }
+pub(crate) fn push_named<'q>(
+    kinds: &'q [u16; 64],
+    a: &'q [u16; 64],
+    b: &'q [u16; 64],
+    c: &'q [u16; 64],
+    place: u16,
+    count: u16,
+    scratch: &mut [u16],
+    capacity: u16,
+    first: u16,
+) -> u16
+    requires { ⌜ QueueShape (queueOf (now kinds) (now a) (now b) (now c) place count) × (scratchWords capacity ≤ length (now scratch)) × (capacity ≤ mostCells) × (first ≤ capacity) ⌝ }
+    ensures { λ r. ⌜ Pushes capacity (stack (now (scratch .exit)) r) (pushedNamed capacity (waiting (queueOf (now (kinds .entry)) (now (a .entry)) (now (b .entry)) (now (c .entry)) place count)) (stack (now (scratch .entry)) first)) ⌝ }
 {
-    let place = queue.place;
-    let count = queue.count;
     let mut top = first;
     let mut i: u16 = 0;
     while i < count {
         let j = queue::slot_after(place, i);
-        top = push_names(
-            scratch,
-            c,
-            top,
-            queue.kinds[j],
-            queue.a[j],
-            queue.b[j],
-            queue.c[j],
-        );
+        top = push_names(scratch, capacity, top, kinds[j], a[j], b[j], c[j]);
         i += 1;
     }
     top

@@ -1,5 +1,4 @@
 // Roots: cells whose root count is above 0, and cells that a waiting packet names.
-use machine::Queue;
 use questions::is_cell;
 use queue::Packet;
 ghost use mathlib.Core.Path.{_≡_};
@@ -8,7 +7,7 @@ ghost use Prim.Native.Nat.{suc, _≤_};
 ghost use lib.Dec.{ltb};
 ghost use lib.ListN.{length};
 ghost use Rattle.machine.specs.Table.{rootCount, tableLength, wordAt};
-ghost use Rattle.machine.specs.Queue.{waiting};
+ghost use Rattle.machine.specs.Queue.{queueOf, waiting};
 ghost use Rattle.machine.specs.Packets.{kindOf, contains, isNamed};
 ghost use Rattle.machine.specs.Facts.{QueueShape, Shape};
 ghost use Rattle.machine.specs.ShortWay.{watchedOf, staysRoot};
@@ -61,16 +60,22 @@ fn names_cell(kind: u16, a: u16, b: u16, c: u16, w: u16) -> bool
 }
 
 // Whether a waiting packet names the cell w.
-fn named(queue: Queue, w: u16) -> bool
-    requires { ⌜ QueueShape queue × (1 ≤ w) ⌝ }
-    ensures { λ r. ⌜ r ≡ isNamed (waiting queue) w ⌝ }
+fn named<'q>(
+    kinds: &'q [u16; 64],
+    a: &'q [u16; 64],
+    b: &'q [u16; 64],
+    c: &'q [u16; 64],
+    place: u16,
+    count: u16,
+    w: u16,
+) -> bool
+    requires { ⌜ QueueShape (queueOf (now kinds) (now a) (now b) (now c) place count) × (1 ≤ w) ⌝ }
+    ensures { λ r. ⌜ r ≡ isNamed (waiting (queueOf (now (kinds .entry)) (now (a .entry)) (now (b .entry)) (now (c .entry)) place count)) w ⌝ }
 {
-    let place = queue.place;
-    let count = queue.count;
     let mut i: u16 = 0;
     while i < count {
         let j = queue::slot_after(place, i);
-        if names_cell(queue.kinds[j], queue.a[j], queue.b[j], queue.c[j], w) {
+        if names_cell(kinds[j], a[j], b[j], c[j], w) {
             return true;
         }
         i += 1;
@@ -100,15 +105,24 @@ pub fn watched_of(kind: u16, a: u16, b: u16, c: u16) -> u16
 }
 
 // Whether the word w is no cell, or a root.
-pub fn stays_root(table: &[u16], queue: Queue, w: u16) -> bool
-    requires { ⌜ Shape (now table) queue ⌝ }
-    ensures { λ r. ⌜ r ≡ staysRoot (now (table .entry)) (waiting queue) w ⌝ }
+pub fn stays_root<'q>(
+    table: &[u16],
+    kinds: &'q [u16; 64],
+    a: &'q [u16; 64],
+    b: &'q [u16; 64],
+    c: &'q [u16; 64],
+    place: u16,
+    count: u16,
+    w: u16,
+) -> bool
+    requires { ⌜ Shape (now table) (queueOf (now kinds) (now a) (now b) (now c) place count) ⌝ }
+    ensures { λ r. ⌜ r ≡ staysRoot (now (table .entry)) (waiting (queueOf (now (kinds .entry)) (now (a .entry)) (now (b .entry)) (now (c .entry)) place count)) w ⌝ }
 {
     if is_cell(cells::capacity_of(table), w) {
         if rooted(table, (w - 1) as usize) {
             return true;
         }
-        return named(queue, w);
+        return named(kinds, a, b, c, place, count, w);
     }
     true
 }

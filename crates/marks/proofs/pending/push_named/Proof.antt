@@ -4,26 +4,31 @@ use native.Mathlib.Omega.{arith}
 use lib.ListN.{length}
 use borrow.Author.Needs.{needs}
 use Rattle.marks.specs.Stack.{stack, pushedNamed, Pushes}
-use Rattle.machine.specs.Queue.{slots, slot, packetsFrom, waiting}
+use Rattle.machine.specs.declared.Queue.{Queue}
+use Rattle.machine.specs.Queue.{slots, queueOf, slot, packetsFrom, waiting}
 use Rattle.marks.proofs.Loops.{named-start, named-push}
 use Rattle.marks.proofs.pending.push_named.Statement.{statement}
 use Rattle.marks.proofs.pending.push_named.Tie as tie
 
 abbrev Inv-loop : tie.InvT-loop
-Inv-loop scratch₀ c first queue place count top₀ i₀ scratch top i =
+Inv-loop kinds a b c place count scratch₀ capacity first top₀ i₀ scratch top i =
     (i ≤ count)
     × (count ≤ slots)
     × (place < slots)
     × (length scratch ≡ length scratch₀)
-    × Pushes c (stack scratch top) (pushedNamed c (packetsFrom queue place i) (stack scratch₀ first))
+    × Pushes capacity (stack scratch top) (pushedNamed capacity (packetsFrom (queueOf kinds a b c place count) place i) (stack scratch₀ first))
 
 abbrev μ-loop : tie.MeasureT-loop
-μ-loop scratch₀ c first queue place count top₀ i₀ scratch top i = count - i
+μ-loop kinds a b c place count scratch₀ capacity first top₀ i₀ scratch top i = count - i
+
+-- the queue of the lent arrays
+abbrev queue : tie.Start Inv-loop μ-loop → Queue
+queue c = let i = c .args in queueOf (i .kinds .now) (i .a .now) (i .b .now) (i .c .now) (i .place) (i .count)
 
 loop-holds : tie.Need-loop-holds Inv-loop μ-loop
 loop-holds c = let s = c .before in
-    let q = s .args .t1 in
-    (omega arith, s .pre .0 .count, s .pre .0 .place, refl, named-start (s .args .c) q (q .place) (stack (s .args .scratch .now) (s .args .first)) (s .pre .3))
+    let q = queue s in
+    (omega arith, s .pre .0 .count, s .pre .0 .place, refl, named-start (s .args .capacity) q (q .place) (stack (s .args .scratch .now) (s .args .first)) (s .pre .3))
 
 slot-after-requires : tie.Need-slot-after-requires Inv-loop μ-loop
 slot-after-requires c κs = search needs
@@ -68,14 +73,14 @@ loop-again c =
     let at-loop = at-slot-after .before .before in
     let s = at-loop .before .before in
     let l = at-loop .loop in
-    let q = s .args .t1 in
+    let q = queue s in
     let v = l .inv in
     let pushed = rw (at-slot-after .slot-after .ensures .0) at (c .before .before .push-names .ensures) in (
       omega arith,
       v .1,
       v .2,
       omega arith,
-      named-push (s .args .c) q (q .place) (l .i) (stack (s .args .scratch .now) (s .args .first)) (stack (l .scratch) (l .top)) _ (v .4)
+      named-push (s .args .capacity) q (q .place) (l .i) (stack (s .args .scratch .now) (s .args .first)) (stack (l .scratch) (l .top)) _ (v .4)
           pushed,
     )
 
@@ -86,8 +91,7 @@ returns : tie.Need-returns Inv-loop μ-loop
 unfolding waiting
 returns c =
     let l = c .before .loop in
-    let q = c .before .before .before .args .t1 in
-    let e : l .i ≡ q .count = omega arith in
+    let e : l .i ≡ c .before .before .before .args .count = omega arith in
     rw e at (l .inv .4)
 
 pub push-named-spec : {M : Type 1} → statement M

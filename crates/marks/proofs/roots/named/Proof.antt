@@ -5,20 +5,25 @@ use native.Mathlib.Omega.{arith}
 use borrow.Author.Needs.{needs}
 use Rattle.marks.specs.Names.{threeNames}
 use Rattle.machine.specs.Packets.{isNamed}
-use Rattle.machine.specs.Queue.{slots, slot, packetsFrom, waiting}
+use Rattle.machine.specs.declared.Queue.{Queue}
+use Rattle.machine.specs.Queue.{slots, queueOf, slot, packetsFrom, waiting}
 use Rattle.marks.proofs.Names.{named-none, named-still, named-found}
 use Rattle.marks.proofs.roots.named.Statement.{statement}
 use Rattle.marks.proofs.roots.named.Tie as tie
 
 abbrev Inv-loop : tie.InvT-loop
-Inv-loop w queue place count i₀ i =
-    (i ≤ count) × (count ≤ slots) × (place < slots) × (1 ≤ w) × (false ≡ isNamed (packetsFrom queue place i) w)
+Inv-loop kinds a b c place count w i₀ i =
+    (i ≤ count) × (count ≤ slots) × (place < slots) × (1 ≤ w) × (false ≡ isNamed (packetsFrom (queueOf kinds a b c place count) place i) w)
 
 abbrev μ-loop : tie.MeasureT-loop
-μ-loop w queue place count i₀ i = count - i
+μ-loop kinds a b c place count w i₀ i = count - i
+
+-- the queue of the lent arrays
+abbrev queue : tie.Start Inv-loop μ-loop → Queue
+queue c = let i = c .args in queueOf (i .kinds .now) (i .a .now) (i .b .now) (i .c .now) (i .place) (i .count)
 
 loop-holds : tie.Need-loop-holds Inv-loop μ-loop
-loop-holds c = (omega arith, c .pre .0 .count, c .pre .0 .place, c .pre .1, named-none (c .args .t1) (c .args .t1 .place) (c .args .w))
+loop-holds c = (omega arith, c .pre .0 .count, c .pre .0 .place, c .pre .1, named-none (queue c) (c .args .place) (c .args .w))
 
 slot-after-requires : tie.Need-slot-after-requires Inv-loop μ-loop
 slot-after-requires c κs = search needs
@@ -56,7 +61,7 @@ returns c =
     let at-slot-after = c .before .before .before .before .before .before in
     let at-loop = at-slot-after .before .before in
     let start = at-loop .before in
-    let q = start .args .t1 in
+    let q = queue start in
     let l = at-loop .loop in
     let r = rw (at-slot-after .slot-after .ensures .0) at (c .before .names-cell .ensures) in
     named-found q (q .place) (l .i) (q .count) (start .args .w) (l .inv .3) (omega arith) _ r (c .if1 .taken)
@@ -73,7 +78,7 @@ loop-again c =
     let at-slot-after = c .before .before .before .before .before .before in
     let at-loop = at-slot-after .before .before in
     let start = at-loop .before in
-    let q = start .args .t1 in
+    let q = queue start in
     let l = at-loop .loop in
     let v = l .inv in
     let r = rw (at-slot-after .slot-after .ensures .0) at (c .before .names-cell .ensures) in
@@ -83,8 +88,7 @@ returns-2 : tie.Need-returns-2 Inv-loop μ-loop
 unfolding waiting
 returns-2 c =
     let l = c .before .loop in
-    let q = c .before .before .args .t1 in
-    let e : l .i ≡ q .count = omega arith in
+    let e : l .i ≡ c .before .before .args .count = omega arith in
     rw e at (l .inv .4)
 
 pub named-spec : {M : Type 1} → statement M
