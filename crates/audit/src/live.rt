@@ -42,6 +42,15 @@ pub(crate) fn all_reached(table: &[u16], queue: Queue, scratch: &mut [u16]) -> b
     requires { ⌜ Lent (now table) queue (now scratch) ⌝ }
     ensures { λ r. ⌜ Audits (now (table .entry)) (allReached (now (table .entry)) (waiting queue)) (now (scratch .entry)) (now (scratch .exit)) r ⌝ }
 {
-    mark(table, queue, scratch);
+    mark(
+        table,
+        &queue.kinds,
+        &queue.a,
+        &queue.b,
+        &queue.c,
+        queue.place,
+        queue.count,
+        scratch,
+    );
     used_marked(table, scratch)
 }

@@ -174,18 +174,19 @@ module _ (t : List ℕ) (q : Queue) (s : List ℕ) where
       same : store t (r .queue) s ≡ store t q s
       same = ap (λ (x : Queue). store t x s) f
 
-  pub applies : asks ≡ 0 → 0 < q .count → (r : Stepped) (t′ s′ : List ℕ) → Applies t q s r t′ s′ → Steps t q s r t′ s′
-  applies a some r t′ s′ p = record {
-    asked = λ n g. absurd (omega arith);
-    answered = λ n g d. let x : _≡_ {A = ℕ} 0 1 = cc (ap stepReply (p .answer)) in omega arith;
+  pub applies : asks ≡ 0 → 0 < q .count → (r : Stepped) (t′ s′ : List ℕ) (n : ℕ) → Applies t (waiting (taken q)) (oldest q) s t′ s′ n
+      → r .answer ≡ StepAnswer.Applied (oldest q .kind) n → r .queue ≡ taken q → Steps t q s r t′ s′
+  applies a some r t′ s′ n p e f = record {
+    asked = λ m g. absurd (omega arith);
+    answered = λ m g d. let x : _≡_ {A = ℕ} 0 1 = cc (ap stepReply e) in omega arith;
     idles = λ g d. absurd (omega arith);
-    replies = λ g d. (_, ap stepReply (p .answer));
-    takes = λ g d. (p .queue, p .scratch);
-    exact = λ g m. rw (p .table, p .answer, p .queue, p .scratch) (exact t q s h some m);
-    bounded = rw (p .table, p .queue, p .scratch) (record {
-      sameLength = f .sameLength;
-      sameCapacity = f .sameCapacity;
-      pastCells = f .pastCells;
+    replies = λ g d. (n, ap stepReply e);
+    takes = λ g d. (f, p .scratch);
+    exact = λ g m. rw (p .table, e, p .number, f, p .scratch) (exact t q s h some m);
+    bounded = rw (p .table, f, p .scratch) (record {
+      sameLength = k .sameLength;
+      sameCapacity = k .sameCapacity;
+      pastCells = k .pastCells;
       scratchLength = length-cleared (scratchWords (capacity t)) s (h .scratch);
       pastScratch = past-cleared (scratchWords (capacity t)) s;
     });
@@ -194,58 +195,47 @@ module _ (t : List ℕ) (q : Queue) (s : List ℕ) where
       h : Lent t q s
       h = asked-lent t q s a
 
-      f : Framed t (collected (applyFitting t (changes (oldest q))) (waiting (taken q)) (oldest q))
-      f = framed-collected t q s h some
+      k : Framed t (collected (applyFitting t (changes (oldest q))) (waiting (taken q)) (oldest q))
+      k = framed-collected t q s h some
 
-pub oldest-read : (q : Queue) → packet (getD (q .kinds) (q .place) 0) (getD (q .a) (q .place) 0) (getD (q .b) (q .place) 0) (getD (q .c) (q .place) 0) ≡ oldest q
-unfolding slot
-oldest-read q = refl
+pub taken-lent : (t : List ℕ) (q : Queue) (s : List ℕ) → Lent t q s → Lent t (taken q) s
+unfolding taken putSlot
+taken-lent t q s h =
+    let o = h .shape .queue in
+    record { shape = record { table = h .shape .table; queue = record { place = omega arith; count = omega arith } }; scratch = h .scratch }
 
--- the packet read and applied, and the queue behind it
-module _ (t : List ℕ) (q : Queue) (s : List ℕ) (h : Lent t q s) (k a b d : ℕ) (e : packet k a b d ≡ oldest q) (t₁ : List ℕ)
-    (f : t₁ ≡ applyFitting t (changesOf (kindOf k) a b)) (rest : Queue) (g : rest ≡ taken q) where
-  applied-oldest : t₁ ≡ applyFitting t (changes (oldest q))
-  applied-oldest = f ∙ rw (← e) (unfold changes in refl)
+-- the packet p applied, with the queue rest behind it
+module _ (t : List ℕ) (rest : Queue) (s : List ℕ) (h : Lent t rest s) (p : Packet) (t₁ : List ℕ)
+    (f : t₁ ≡ applyFitting t (changesOf (kindOf (p .kind)) (p .a) (p .b))) where
+  packet-applied : t₁ ≡ applyFitting t (changes p)
+  unfolding changes
+  packet-applied = f
 
   capacity-is : capacity t₁ ≡ capacity t
-  capacity-is = ap capacity applied-oldest ∙ framed-fitting t (changes (oldest q)) .sameCapacity
+  capacity-is = ap capacity packet-applied ∙ framed-fitting t (changes p) .sameCapacity
 
-  pub rest-lent : Lent t₁ rest s
-  rest-lent =
-      let o = h .shape .queue in
-      record {
-        shape = record {
-          table = rw applied-oldest (shape-fitting t (changes (oldest q)) (h .shape .table));
-          queue = rw g (record { place = unfold taken putSlot in omega arith; count = unfold taken putSlot in omega arith });
-        };
-        scratch = rw capacity-is (h .scratch);
-      }
-
-  kind-is : k ≡ oldest q .kind
-  kind-is = ap (λ (p : Packet). p .kind) e
+  pub still-lent : Lent t₁ rest s
+  still-lent = record {
+    shape = record { table = rw packet-applied (shape-fitting t (changes p) (h .shape .table)); queue = h .shape .queue };
+    scratch = rw capacity-is (h .scratch);
+  }
 
   -- what was asked of the watched word
-  module _ (w : ℕ) (v : w ≡ watchedOf (kindOf k) a b d) (o : Bool) (u : o ≡ staysRoot t₁ (waiting rest) w) where
-    stays-is : (x : Bool) → o ≡ x → staysRoot (applyFitting t (changes (oldest q))) (waiting (taken q)) (watched (oldest q)) ≡ x
+  module _ (w : ℕ) (v : w ≡ watchedOf (kindOf (p .kind)) (p .a) (p .b) (p .c)) (o : Bool) (u : o ≡ staysRoot t₁ (waiting rest) w) where
+    stays-is : (x : Bool) → o ≡ x → staysRoot (applyFitting t (changes p)) (waiting rest) (watched p) ≡ x
     unfolding watched
-    stays-is x y = rw (applied-oldest, g, v ∙ ap watched e) at (sym u ∙ y)
+    stays-is x y = rw (packet-applied, v) at (sym u ∙ y)
 
-    pub short : o ≡ true → (c : ℕ) → c ≡ capacity t → (s′ : List ℕ) → s′ ≡ cleared (scratchWords c) s → (r : Stepped)
-        → r .answer ≡ StepAnswer.Applied k 0 → r .queue ≡ rest
-        → Applies t q s r t₁ s′
-    short x c i s′ y r z j = record {
-      table = applied-oldest ∙ (unfold collected in rw (stays-is true x));
-      answer = z ∙ (unfold freedNumber in rw (stays-is true x, kind-is));
-      queue = j ∙ g;
+    pub short : o ≡ true → (c : ℕ) → c ≡ capacity t → (s′ : List ℕ) → s′ ≡ cleared (scratchWords c) s → Applies t (waiting rest) p s t₁ s′ 0
+    short x c i s′ y = record {
+      table = packet-applied ∙ (unfold collected in rw (stays-is true x));
+      number = unfold freedNumber in rw (stays-is true x);
       scratch = y ∙ ap (λ (n : ℕ). cleared (scratchWords n) s) i;
     }
 
-    pub long : o ≡ false → (t′ s′ : List ℕ) (n : ℕ) → Collects t₁ (waiting rest) s t′ s′ n → (r : Stepped)
-        → r .answer ≡ StepAnswer.Applied k n → r .queue ≡ rest
-        → Applies t q s r t′ s′
-    long x t′ s′ n y r z j = record {
-      table = y .table ∙ rw (applied-oldest, g) (unfold collected in rw (stays-is false x));
-      answer = z ∙ rw (y .number, applied-oldest, g, kind-is) (unfold freedNumber in rw (stays-is false x));
-      queue = j ∙ g;
+    pub long : o ≡ false → (t′ s′ : List ℕ) (n : ℕ) → Collects t₁ (waiting rest) s t′ s′ n → Applies t (waiting rest) p s t′ s′ n
+    long x t′ s′ n y = record {
+      table = y .table ∙ rw packet-applied (unfold collected in rw (stays-is false x));
+      number = y .number ∙ rw packet-applied (unfold freedNumber in rw (stays-is false x));
       scratch = y .scratch ∙ ap (λ (m : ℕ). cleared (scratchWords m) s) capacity-is;
     }

@@ -43,11 +43,10 @@ pub record Collects (t : List ℕ) (ps : List Packet) (s t′ s′ : List ℕ) (
   pub number : n ≡ length (unreached t ps)
   pub scratch : s′ ≡ cleared (scratchWords (capacity t)) s
 
--- what the code computes where a packet waits, on any store past questions 1 and 2
-pub record Applies (t : List ℕ) (q : Queue) (s : List ℕ) (r : Stepped) (t′ s′ : List ℕ) : Type 0 where
-  pub table : t′ ≡ collected (applyFitting t (changes (oldest q))) (waiting (taken q)) (oldest q)
-  pub answer : r .answer ≡ StepAnswer.Applied (oldest q .kind) (freedNumber (applyFitting t (changes (oldest q))) (waiting (taken q)) (oldest q))
-  pub queue : r .queue ≡ taken q
+-- what the code computes for the packet p with ps waiting behind it, on any store past questions 1 and 2
+pub record Applies (t : List ℕ) (ps : List Packet) (p : Packet) (s t′ s′ : List ℕ) (n : ℕ) : Type 0 where
+  pub table : t′ ≡ collected (applyFitting t (changes p)) ps p
+  pub number : n ≡ freedNumber (applyFitting t (changes p)) ps p
   pub scratch : s′ ≡ cleared (scratchWords (capacity t)) s
 
 pub record Steps (t : List ℕ) (q : Queue) (s : List ℕ) (r : Stepped) (t′ s′ : List ℕ) : Type 0 where

@@ -5,9 +5,10 @@ mod sweep;
 use machine::Asked;
 use machine::Queue;
 use machine::StepAnswer;
-ghost use Prim.Native.Nat.{_<_};
-ghost use Rattle.machine.specs.Queue.{waiting};
+use queue::Packet;
+ghost use Rattle.machine.specs.Queue.{queueOf, waiting};
 ghost use Rattle.machine.specs.Facts.{Lent};
+ghost use Rattle.queue.specs.Sums.{packetOf};
 ghost use Rattle.collector.specs.Steps.{Collects, Applies, Steps};
 
 // A step's answer, and the queue afterwards.
@@ -17,63 +18,98 @@ pub struct Stepped {
 }
 
 // Mark and sweep: how many cells were freed.
-fn collect(table: &mut [u16], queue: Queue, scratch: &mut [u16]) -> u16
-    requires { ⌜ Lent (now table) queue (now scratch) ⌝ }
-    ensures { λ r. ⌜ Collects (now (table .entry)) (waiting queue) (now (scratch .entry)) (now (table .exit)) (now (scratch .exit)) r ⌝ }
+fn collect<'q>(
+    table: &mut [u16],
+    kinds: &'q [u16; 64],
+    a: &'q [u16; 64],
+    b: &'q [u16; 64],
+    c: &'q [u16; 64],
+    place: u16,
+    count: u16,
+    scratch: &mut [u16],
+) -> u16
+    requires { ⌜ Lent (now table) (queueOf (now kinds) (now a) (now b) (now c) place count) (now scratch) ⌝ }
+    ensures { λ r. ⌜ Collects (now (table .entry)) (waiting (queueOf (now (kinds .entry)) (now (a .entry)) (now (b .entry)) (now (c .entry)) place count)) (now (scratch .entry)) (now (table .exit)) (now (scratch .exit)) r ⌝ }
 {
-    let c = cells::capacity_of(table);
-    marks::mark(table, queue, scratch);
+    let capacity = cells::capacity_of(table);
+    marks::mark(table, kinds, a, b, c, place, count, scratch);
     let freed = sweep::sweep(table, scratch);
-    marks::clear(scratch, c);
+    marks::clear(scratch, capacity);
     freed
 }
 
-// A packet waits: the oldest is applied and leaves the queue. Where its watched word is no cell or still a root, nothing can be freed on a sound
-// store, and mark and sweep are skipped.
-fn apply_oldest(table: &mut [u16], queue: Queue, scratch: &mut [u16]) -> Stepped
-    requires { ⌜ Lent (now table) queue (now scratch) × (0 < queue .count) ⌝ }
-    ensures { λ r. ⌜ Applies (now (table .entry)) queue (now (scratch .entry)) r (now (table .exit)) (now (scratch .exit)) ⌝ }
+// The oldest packet, which has left the queue, is applied: how many cells were freed. Where its watched word is no cell or still a root, nothing can
+// be freed on a sound store, and mark and sweep are skipped.
+fn apply_oldest<'q>(
+    table: &mut [u16],
+    kinds: &'q [u16; 64],
+    a: &'q [u16; 64],
+    b: &'q [u16; 64],
+    c: &'q [u16; 64],
+    place: u16,
+    count: u16,
+    oldest: Packet,
+    scratch: &mut [u16],
+) -> u16
+    requires { ⌜ Lent (now table) (queueOf (now kinds) (now a) (now b) (now c) place count) (now scratch) ⌝ }
+    ensures { λ r. ⌜ Applies (now (table .entry)) (waiting (queueOf (now (kinds .entry)) (now (a .entry)) (now (b .entry)) (now (c .entry)) place count)) (packetOf oldest) (now (scratch .entry)) (now (table .exit)) (now (scratch .exit)) r ⌝ }
 {
     let capacity = cells::capacity_of(table);
-    let place = queue.place;
-    let j = place as usize;
-    let kind = queue.kinds[j];
-    let a = queue.a[j];
-    let b = queue.b[j];
-    let watched = marks::roots::watched_of(kind, a, b, queue.c[j]);
-    let rest = queue::take(queue);
-    counts::apply(table, kind, a, b);
-    let mut freed: u16 = 0;
-    if marks::roots::stays_root(table, rest, watched) {
+    let watched = marks::roots::watched_of(oldest.kind, oldest.a, oldest.b, oldest.c);
+    counts::apply(table, oldest.kind, oldest.a, oldest.b);
+    if marks::roots::stays_root(table, kinds, a, b, c, place, count, watched) {
         marks::clear(scratch, capacity);
-    } else {
-        freed = collect(table, rest, scratch);
+        return 0;
     }
-    Stepped {
-        answer: StepAnswer::Applied { kind, freed },
-        queue: rest,
-    }
+    collect(table, kinds, a, b, c, place, count, scratch)
 }
 
-// One step, for any table, queue and scratch.
+// One step, for any table, queue and scratch. The queue is copied once, into `rest`: its arrays are lent from there.
 pub fn step(table: &mut [u16], queue: Queue, scratch: &mut [u16]) -> Stepped
     ensures { λ r. ⌜ Steps (now (table .entry)) queue (now (scratch .entry)) r (now (table .exit)) (now (scratch .exit)) ⌝ }
 {
     let asked = questions::lent(table, queue.place, queue.count, scratch);
+    let mut rest = queue;
+    let mut answer = StepAnswer::Idle;
+    let count = rest.count;
     match asked {
+        Asked::No(refusal) => answer = StepAnswer::Refused(refusal),
         Asked::Yes => {
-            let count = queue.count;
-            if count == 0 {
-                return Stepped {
-                    answer: StepAnswer::Idle,
-                    queue,
+            if 0 < count {
+                let place = rest.place;
+                let j = place as usize;
+                let oldest = Packet {
+                    kind: rest.kinds[j],
+                    a: rest.a[j],
+                    b: rest.b[j],
+                    c: rest.c[j],
+                };
+                rest.kinds[j] = 0;
+                rest.a[j] = 0;
+                rest.b[j] = 0;
+                rest.c[j] = 0;
+                rest.place = (place + 1) % Queue::SLOTS;
+                rest.count = count - 1;
+                let freed = apply_oldest(
+                    table,
+                    &rest.kinds,
+                    &rest.a,
+                    &rest.b,
+                    &rest.c,
+                    rest.place,
+                    rest.count,
+                    oldest,
+                    scratch,
+                );
+                answer = StepAnswer::Applied {
+                    kind: oldest.kind,
+                    freed,
                 };
             }
-            apply_oldest(table, queue, scratch)
         }
-        Asked::No(refusal) => Stepped {
-            answer: StepAnswer::Refused(refusal),
-            queue,
-        },
+    }
+    Stepped {
+        answer,
+        queue: rest,
     }
 }

@@ -1,4 +1,4 @@
-// The packet queue: append, the oldest packet, take, and the sums of waiting changes of one cell.
+// The packet queue: append, the packet in a slot, and the sums of waiting changes of one cell.
 use machine::CellCount;
 use machine::Queue;
 use machine::RootCount;
@@ -6,7 +6,7 @@ ghost use mathlib.Core.Path.{_≡_};
 ghost use mathlib.Core.List.{List};
 ghost use Prim.Native.Nat.{ℕ, suc, _+_, _%_, _<_, _≤_};
 ghost use Rattle.machine.specs.Range.{matching};
-ghost use Rattle.machine.specs.Queue.{packet, slots, queueOf, slot, appended, taken, waiting};
+ghost use Rattle.machine.specs.Queue.{packet, slots, queueOf, slot, appended, waiting};
 ghost use Rattle.machine.specs.Words.{largestWord};
 ghost use Rattle.queue.specs.Sums.{packetOf, AtMost, WithCount, atLeast, atMostCeiling, Bounded, Added, SumsOf};
 
@@ -136,24 +136,6 @@ pub fn packet_at(queue: Queue, j: usize) -> Packet
         b: queue.b[j],
         c: queue.c[j],
     }
-}
-
-// The queue without its oldest packet.
-pub fn take(queue: Queue) -> Queue
-    requires { ⌜ (queue .place < slots) × (0 < queue .count) ⌝ }
-    ensures { λ r. ⌜ r ≡ taken queue ⌝ }
-{
-    let place = queue.place;
-    let count = queue.count;
-    let j = place as usize;
-    let mut next = queue;
-    next.kinds[j] = 0;
-    next.a[j] = 0;
-    next.b[j] = 0;
-    next.c[j] = 0;
-    next.place = (place + 1) % Queue::SLOTS;
-    next.count = count - 1;
-    next
 }
 
 // n where the word w is x, else 0.

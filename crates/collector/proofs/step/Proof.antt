@@ -1,16 +1,99 @@
-use mathlib.Core.Path.{refl}
+use mathlib.Core.Path.{_≡_, refl}
 use native.Mathlib.Omega.{arith}
 use borrow.Author.Needs.{needs}
+use Rattle.machine.specs.Queue.{slot, putSlot, taken}
+use Rattle.machine.specs.Calls.{step, store}
+use Rattle.machine.specs.Questions.{firstNo, early}
+use Rattle.machine.specs.Facts.{Lent}
 use Rattle.machine.proofs.Questions.{says-yes, says-no, asked-lent}
-use Rattle.collector.proofs.StepContract.{refuses, idles, applies}
+use Rattle.collector.proofs.StepContract.{refuses, idles, applies, taken-lent}
 use Rattle.collector.proofs.step.Statement.{statement}
 use Rattle.collector.proofs.step.Tie as tie
+
+-- the function's entry, and what questions 1 and 2 said
+abbrev start : tie.After-enum-told → tie.Start
+start c = c .before .before .before .before .before .before .before
+
+yes : (c : tie.After-enum-told) → let i = start c .args in firstNo (early (store (i .table .now) (i .queue) (i .scratch .now)) step) ≡ 0
+yes c =
+    let i = start c .args in
+    says-yes (i .table .now) (i .queue) (i .scratch .now) _ (c .before .before .lent .ensures (i .queue)) (c .enum-told .given .1)
+
+past : (c : tie.After-enum-told) → let i = start c .args in Lent (i .table .now) (i .queue) (i .scratch .now)
+past c = let i = start c .args in asked-lent (i .table .now) (i .queue) (i .scratch .now) (yes c)
 
 lent-requires : tie.Need-lent-requires
 lent-requires c κs = search needs
 
+enum-known-asked : tie.Need-enum-known-asked
+enum-known-asked c = search needs
+
 enum-told : tie.Need-enum-told
 enum-told c = search needs
+
+cast-j : tie.Need-cast-j
+cast-j c = search needs
+
+mul-rest : tie.Need-mul-rest
+mul-rest c = search needs
+
+element-copy-out-rest : tie.Need-element-copy-out-rest
+element-copy-out-rest c = let l = past (c .before) .shape .queue in omega arith
+
+mul-rest-2 : tie.Need-mul-rest-2
+mul-rest-2 c = search needs
+
+element-copy-out-rest-2 : tie.Need-element-copy-out-rest-2
+element-copy-out-rest-2 c = let l = past (c .before .before) .shape .queue in omega arith
+
+mul-t26 : tie.Need-mul-t26
+mul-t26 c = search needs
+
+element-copy-out-t29 : tie.Need-element-copy-out-t29
+element-copy-out-t29 c = let l = past (c .before .before .before) .shape .queue in omega arith
+
+mul-rest-3 : tie.Need-mul-rest-3
+mul-rest-3 c = search needs
+
+element-copy-out-rest-3 : tie.Need-element-copy-out-rest-3
+element-copy-out-rest-3 c = let l = past (c .before .before .before .before) .shape .queue in omega arith
+
+mul-rest-4 : tie.Need-mul-rest-4
+mul-rest-4 c = search needs
+
+element-write-rest : tie.Need-element-write-rest
+element-write-rest c = let l = past (c .before .before .before .before .before) .shape .queue in omega arith
+
+mul-rest-5 : tie.Need-mul-rest-5
+mul-rest-5 c = search needs
+
+element-write-rest-2 : tie.Need-element-write-rest-2
+element-write-rest-2 c = let l = past (c .before .before .before .before .before) .shape .queue in omega arith
+
+mul-rest-6 : tie.Need-mul-rest-6
+mul-rest-6 c = search needs
+
+element-write-rest-3 : tie.Need-element-write-rest-3
+element-write-rest-3 c = let l = past (c .before .before .before .before .before) .shape .queue in omega arith
+
+mul-rest-7 : tie.Need-mul-rest-7
+mul-rest-7 c = search needs
+
+element-write-rest-4 : tie.Need-element-write-rest-4
+element-write-rest-4 c = let l = past (c .before .before .before .before .before) .shape .queue in omega arith
+
+add-rest : tie.Need-add-rest
+add-rest c = let l = past (c .before .before .before .before .before) .shape .queue in omega arith
+
+sub-rest : tie.Need-sub-rest
+sub-rest c = search needs
+
+apply-oldest-requires : tie.Need-apply-oldest-requires
+unfolding taken putSlot
+apply-oldest-requires c κs =
+    let at-told = c .before .before .before .before .before .before .before .before .before .before .before .before in
+    let i = start at-told .args in
+    taken-lent (i .table .now) (i .queue) (i .scratch .now) (past at-told)
 
 same-length : tie.Need-same-length
 same-length c = search needs
@@ -20,25 +103,12 @@ same-length-2 c = search needs
 
 returns : tie.Need-returns
 returns c =
-    let at-told = c .before in
-    let at-lent = at-told .before .before in
-    let s = at-lent .before .before .before .before .before in
-    idles (s .args .table .now) (s .args .queue) (s .args .scratch .now)
-    (says-yes (s .args .table .now) (s .args .queue) (s .args .scratch .now) _ (at-lent .lent .ensures (s .args .queue)) (at-told .enum-told .given .1))
-    (c .if1 .taken) _ refl refl
-
-apply-oldest-requires : tie.Need-apply-oldest-requires
-apply-oldest-requires c κs =
-    let at-told = c .before .before .before in
-    let at-lent = at-told .before .before in
-    let s = at-lent .before .before .before .before .before in (
-      asked-lent (s .args .table .now) (s .args .queue) (s .args .scratch .now)
-          (says-yes (s .args .table .now) (s .args .queue) (s .args .scratch .now) _ (at-lent .lent .ensures (s .args .queue)) (at-told .enum-told .given .1)),
-      omega arith,
-    )
-
-enum-known-asked : tie.Need-enum-known-asked
-enum-known-asked c = search needs
+    let at-asked = c .before in
+    let at-lent = at-asked .before .before in
+    let i = at-lent .before .before .before .before .before .args in
+    refuses (i .table .now) (i .queue) (i .scratch .now) (at-asked .asked .given .0 .0)
+    (says-no (i .table .now) (i .queue) (i .scratch .now) _ (at-asked .asked .given .0 .0) (at-lent .lent .ensures (i .queue)) (at-asked .asked .given .1))
+    _ refl refl
 
 same-length-3 : tie.Need-same-length-3
 same-length-3 c = search needs
@@ -47,14 +117,13 @@ same-length-4 : tie.Need-same-length-4
 same-length-4 c = search needs
 
 returns-2 : tie.Need-returns-2
+unfolding slot taken putSlot
 returns-2 c =
     let at-apply-oldest = c .before .before .before .before in
-    let at-told = at-apply-oldest .before .before .before .before in
-    let at-lent = at-told .before .before in
-    let s = at-lent .before .before .before .before .before in
-    applies (s .args .table .now) (s .args .queue) (s .args .scratch .now)
-    (says-yes (s .args .table .now) (s .args .queue) (s .args .scratch .now) _ (at-lent .lent .ensures (s .args .queue)) (at-told .enum-told .given .1))
-    (omega arith) _ _ _ (at-apply-oldest .apply-oldest .ensures)
+    let at-then = at-apply-oldest .before .before .before .before .before .before .before .before .before .before .before .before in
+    let at-told = at-then .before in
+    let i = start at-told .args in
+    applies (i .table .now) (i .queue) (i .scratch .now) (yes at-told) (at-then .if1 .taken) _ _ _ _ (at-apply-oldest .apply-oldest .ensures) refl refl
 
 same-length-5 : tie.Need-same-length-5
 same-length-5 c = search needs
@@ -64,24 +133,39 @@ same-length-6 c = search needs
 
 returns-3 : tie.Need-returns-3
 returns-3 c =
-    let at-asked = c .before in
-    let at-lent = at-asked .before .before in
-    let s = at-lent .before .before .before .before .before in
-    refuses (s .args .table .now) (s .args .queue) (s .args .scratch .now) (at-asked .asked .given .0 .0)
-    (says-no (s .args .table .now) (s .args .queue) (s .args .scratch .now) _ (at-asked .asked .given .0 .0) (at-lent .lent .ensures (s .args .queue))
-    (at-asked .asked .given .1)) _ refl refl
+    let i = start (c .before) .args in
+    idles (i .table .now) (i .queue) (i .scratch .now) (yes (c .before)) (omega arith) _ refl refl
 
 pub step-spec : {M : Type 1} → statement M
 step-spec =
     tie.close
     (tie.spec
     lent-requires
+    enum-known-asked
     enum-told
+    cast-j
+    mul-rest
+    element-copy-out-rest
+    mul-rest-2
+    element-copy-out-rest-2
+    mul-t26
+    element-copy-out-t29
+    mul-rest-3
+    element-copy-out-rest-3
+    mul-rest-4
+    element-write-rest
+    mul-rest-5
+    element-write-rest-2
+    mul-rest-6
+    element-write-rest-3
+    mul-rest-7
+    element-write-rest-4
+    add-rest
+    sub-rest
+    apply-oldest-requires
     same-length
     same-length-2
     returns
-    apply-oldest-requires
-    enum-known-asked
     same-length-3
     same-length-4
     returns-2

@@ -16,9 +16,9 @@ same-length c = search needs
 
 returns : tie.Need-returns
 returns c =
-    let i = c .before .before .before .before .before .before .before .before .args in
+    let i = c .before .before .before .before .before .before .before .before .before .before .before .before .before .args in
     let m = c .before .before .before .before .mark .ensures in
-    record { answer = c .used-marked .ensures ∙ marked-reached (i .table .now) (waiting (i .queue)) _ (m .marks); past = m .past }
+    record { answer = c .used-marked .ensures ∙ marked-reached (i .table .now) (waiting (i .t2)) _ (m .marks); past = m .past }
 
 pub all-reached-spec : {M : Type 1} → statement M
 all-reached-spec =

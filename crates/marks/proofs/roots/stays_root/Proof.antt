@@ -1,10 +1,16 @@
 use mathlib.Core.Path.{sym, _∙_}
 use native.Mathlib.Omega.{arith}
 use borrow.Author.Needs.{needs}
+use Rattle.machine.specs.declared.Queue.{Queue}
+use Rattle.machine.specs.Queue.{queueOf, waiting}
 use Rattle.marks.proofs.Names.{stays-none, stays-rooted, stays-named}
 use Rattle.marks.proofs.Cells.{told, bounds}
 use Rattle.marks.proofs.roots.stays_root.Statement.{statement}
 use Rattle.marks.proofs.roots.stays_root.Tie as tie
+
+-- the queue of the lent arrays
+abbrev queue : tie.Start → Queue
+queue c = let i = c .args in queueOf (i .kinds .now) (i .a .now) (i .b .now) (i .c .now) (i .place) (i .count)
 
 capacity-of-requires : tie.Need-capacity-of-requires
 capacity-of-requires c κs = search needs
@@ -39,8 +45,9 @@ returns-2 c =
     let at-if1 = c .before .before .before in
     let at-is-cell = at-if1 .before in
     let at-capacity-of = at-is-cell .before in
-    c .named .ensures ∙ stays-named _ _ _ (told _ (at-capacity-of .capacity-of .ensures) (at-is-cell .is-cell .ensures) (at-if1 .if1 .taken))
-    (sym (c .before .before .rooted .ensures) ∙ c .before .if2 .left)
+    let s = at-capacity-of .before .before in
+    rw (c .named .ensures) (stays-named (s .args .table .now) (waiting (queue s)) (s .args .w) (told _ (at-capacity-of .capacity-of .ensures) (at-is-cell .is-cell .ensures) (at-if1 .if1 .taken))
+    (sym (c .before .before .rooted .ensures) ∙ c .before .if2 .left))
 
 returns-3 : tie.Need-returns-3
 returns-3 c = stays-none _ _ _ (told _ (c .before .before .capacity-of .ensures) (c .before .is-cell .ensures) (c .if1 .left))
