@@ -5,14 +5,14 @@ use mathlib.Core.Bool.{Bool, true, false, cond, not, _&&_, and-comm}
 use mathlib.Core.List.{List, [], _∷_}
 use Prim.Native.Nat.{ℕ, pred, _<_}
 use native.Mathlib.Omega.{arith}
-use lib.ListN.{length, getD}
+use lib.ListN.{length}
 use Rattle.machine.specs.declared.Queue.{Queue}
 use Rattle.machine.specs.declared.Refusal.{Refusal}
 use Rattle.machine.specs.declared.StepAnswer
 use Rattle.machine.specs.declared.StepAnswer.{StepAnswer}
 use Rattle.machine.specs.Range.{select}
 use Rattle.machine.specs.Table.{capacity, scratchWords, inUse}
-use Rattle.machine.specs.Queue.{Packet, packet, slot, putSlot, packetsFrom, waiting, taken}
+use Rattle.machine.specs.Queue.{Packet, putSlot, packetsFrom, waiting, taken}
 use Rattle.machine.specs.Packets.{Change, kindOf, changesOf, changes}
 use Rattle.machine.specs.Reached.{reached}
 use Rattle.machine.specs.Calls.{step, refused, idle, applied, store}

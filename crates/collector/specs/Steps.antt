@@ -5,8 +5,6 @@ use mathlib.Core.List.{List, []}
 use Prim.Native.Nat.{ℕ, suc, _<_}
 use lib.ListN.{length}
 use Rattle.machine.specs.declared.Queue.{Queue}
-use Rattle.machine.specs.declared.StepAnswer
-use Rattle.machine.specs.declared.StepAnswer.{StepAnswer}
 use Rattle.machine.specs.Table.{capacity, scratchWords}
 use Rattle.machine.specs.Queue.{Packet, slot, waiting, taken}
 use Rattle.machine.specs.Packets.{changes}

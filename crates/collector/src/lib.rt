@@ -71,25 +71,21 @@ pub fn step(table: &mut [u16], queue: Queue, scratch: &mut [u16]) -> Stepped
     let asked = questions::lent(table, queue.place, queue.count, scratch);
     let mut rest = queue;
     let mut answer = StepAnswer::Idle;
-    let count = rest.count;
     match asked {
         Asked::No(refusal) => answer = StepAnswer::Refused(refusal),
         Asked::Yes => {
-            if 0 < count {
-                let place = rest.place;
-                let j = place as usize;
-                let oldest = Packet {
-                    kind: rest.kinds[j],
-                    a: rest.a[j],
-                    b: rest.b[j],
-                    c: rest.c[j],
-                };
+            if 0 < rest.count {
+                let j = rest.place as usize;
+                let kind = rest.kinds[j];
+                let a = rest.a[j];
+                let b = rest.b[j];
+                let c = rest.c[j];
                 rest.kinds[j] = 0;
                 rest.a[j] = 0;
                 rest.b[j] = 0;
                 rest.c[j] = 0;
-                rest.place = (place + 1) % Queue::SLOTS;
-                rest.count = count - 1;
+                rest.place = (rest.place + 1) % Queue::SLOTS;
+                rest.count -= 1;
                 let freed = apply_oldest(
                     table,
                     &rest.kinds,
@@ -98,13 +94,10 @@ pub fn step(table: &mut [u16], queue: Queue, scratch: &mut [u16]) -> Stepped
                     &rest.c,
                     rest.place,
                     rest.count,
-                    oldest,
+                    Packet { kind, a, b, c },
                     scratch,
                 );
-                answer = StepAnswer::Applied {
-                    kind: oldest.kind,
-                    freed,
-                };
+                answer = StepAnswer::Applied { kind, freed };
             }
         }
     }

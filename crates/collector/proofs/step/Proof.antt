@@ -34,50 +34,50 @@ enum-told c = search needs
 cast-j : tie.Need-cast-j
 cast-j c = search needs
 
+mul-kind : tie.Need-mul-kind
+mul-kind c = search needs
+
+element-copy-out-kind : tie.Need-element-copy-out-kind
+element-copy-out-kind c = let l = past (c .before) .shape .queue in omega arith
+
+mul-a : tie.Need-mul-a
+mul-a c = search needs
+
+element-copy-out-a : tie.Need-element-copy-out-a
+element-copy-out-a c = let l = past (c .before .before) .shape .queue in omega arith
+
+mul-b : tie.Need-mul-b
+mul-b c = search needs
+
+element-copy-out-b : tie.Need-element-copy-out-b
+element-copy-out-b c = let l = past (c .before .before .before) .shape .queue in omega arith
+
+mul-c : tie.Need-mul-c
+mul-c c = search needs
+
+element-copy-out-c : tie.Need-element-copy-out-c
+element-copy-out-c c = let l = past (c .before .before .before .before) .shape .queue in omega arith
+
 mul-rest : tie.Need-mul-rest
 mul-rest c = search needs
-
-element-copy-out-rest : tie.Need-element-copy-out-rest
-element-copy-out-rest c = let l = past (c .before) .shape .queue in omega arith
-
-mul-rest-2 : tie.Need-mul-rest-2
-mul-rest-2 c = search needs
-
-element-copy-out-rest-2 : tie.Need-element-copy-out-rest-2
-element-copy-out-rest-2 c = let l = past (c .before .before) .shape .queue in omega arith
-
-mul-t26 : tie.Need-mul-t26
-mul-t26 c = search needs
-
-element-copy-out-t29 : tie.Need-element-copy-out-t29
-element-copy-out-t29 c = let l = past (c .before .before .before) .shape .queue in omega arith
-
-mul-rest-3 : tie.Need-mul-rest-3
-mul-rest-3 c = search needs
-
-element-copy-out-rest-3 : tie.Need-element-copy-out-rest-3
-element-copy-out-rest-3 c = let l = past (c .before .before .before .before) .shape .queue in omega arith
-
-mul-rest-4 : tie.Need-mul-rest-4
-mul-rest-4 c = search needs
 
 element-write-rest : tie.Need-element-write-rest
 element-write-rest c = let l = past (c .before .before .before .before .before) .shape .queue in omega arith
 
-mul-rest-5 : tie.Need-mul-rest-5
-mul-rest-5 c = search needs
+mul-rest-2 : tie.Need-mul-rest-2
+mul-rest-2 c = search needs
 
 element-write-rest-2 : tie.Need-element-write-rest-2
 element-write-rest-2 c = let l = past (c .before .before .before .before .before) .shape .queue in omega arith
 
-mul-rest-6 : tie.Need-mul-rest-6
-mul-rest-6 c = search needs
+mul-rest-3 : tie.Need-mul-rest-3
+mul-rest-3 c = search needs
 
 element-write-rest-3 : tie.Need-element-write-rest-3
 element-write-rest-3 c = let l = past (c .before .before .before .before .before) .shape .queue in omega arith
 
-mul-rest-7 : tie.Need-mul-rest-7
-mul-rest-7 c = search needs
+mul-rest-4 : tie.Need-mul-rest-4
+mul-rest-4 c = search needs
 
 element-write-rest-4 : tie.Need-element-write-rest-4
 element-write-rest-4 c = let l = past (c .before .before .before .before .before) .shape .queue in omega arith
@@ -144,21 +144,21 @@ step-spec =
     enum-known-asked
     enum-told
     cast-j
+    mul-kind
+    element-copy-out-kind
+    mul-a
+    element-copy-out-a
+    mul-b
+    element-copy-out-b
+    mul-c
+    element-copy-out-c
     mul-rest
-    element-copy-out-rest
-    mul-rest-2
-    element-copy-out-rest-2
-    mul-t26
-    element-copy-out-t29
-    mul-rest-3
-    element-copy-out-rest-3
-    mul-rest-4
     element-write-rest
-    mul-rest-5
+    mul-rest-2
     element-write-rest-2
-    mul-rest-6
+    mul-rest-3
     element-write-rest-3
-    mul-rest-7
+    mul-rest-4
     element-write-rest-4
     add-rest
     sub-rest
