@@ -1,26 +1,32 @@
--- The questions of a whole row call: the early chain, then the late one.
-use mathlib.Core.Path.{_≡_, refl, sym, ap, ap₂, _∙_}
-use mathlib.Core.Logic.{⊎-elim, inl, inr}
-use mathlib.Core.Bool.{Bool, true, false, cond, _&&_}
-use mathlib.Core.List.{List, [], _++_}
+-- The questions of a whole row call, the early ones and then the late ones, and what a "yes" to them leaves: no code here.
+use mathlib.Core.Path.{_≡_, refl, sym, ap, subst, _∙_}
+use mathlib.Core.Bool.{Bool, true, false, not, _&&_}
+use mathlib.Core.List.{List, [], _∷_, _++_}
 use Prim.Native.Nat.{ℕ, zero, suc, _-_, _≤_}
 use native.Mathlib.Omega.{arith}
-use lib.Dec.{eqb}
+use lib.Dec.{leb, eqb}
+use borrow.Author.Tests.{leb-true, eqb-false, not-true}
 use Rattle.machine.specs.declared.Queue.{Queue}
+use Rattle.machine.specs.declared.RowCall as declared
 use Rattle.machine.specs.declared.Asked.{Asked}
 use Rattle.machine.specs.Range.{everyOf}
-use Rattle.machine.specs.Words.{isNil, isCell, isLegal}
-use Rattle.machine.specs.Table.{left, right, capacity, firstFree, wordAt}
-use Rattle.machine.specs.Queue.{Packet, packet}
-use Rattle.machine.specs.Calls.{RowCall, cons, up, down, row, store, field, packetOf}
-use Rattle.machine.specs.Questions.{Question, firstNo, refusedBy, inRange, numberInRange, wordsLegal, xIsCell, earlyRow, early}
-use Rattle.machine.specs.Answers.{askedNumber}
+use Rattle.machine.specs.Words.{isNil, isCell, isLegal, ceiling}
+use Rattle.machine.specs.Table.{capacity, firstFree}
+use Rattle.machine.specs.Queue.{Packet, waiting}
+use Rattle.machine.specs.Packets.{root, cell, kindOf}
+use Rattle.machine.specs.Facts.{Shape}
+use Rattle.machine.specs.Calls.{RowCall, car, cdr, cons, setLeft, setRight, up, down, row, store, packetOf}
+use Rattle.machine.specs.Questions.{Question, ask, firstNo, refusedBy, inRange, numberInRange, wordsLegal, xIsCell, heldEnough, slotEmpty, earlyRow, early}
+use Rattle.machine.specs.Answers.{askedNumber, callOf}
+use Rattle.machine.proofs.Range.{and-first}
 use Rattle.machine.proofs.Lists.{and-true}
-use Rattle.machine.proofs.Questions.{Numbered, firstNo-append, firstNo-none, early-numbered}
-use Rattle.calls.specs.Early.{wordsNumber, firstOf, cellNumber, Replaces}
-use Rattle.calls.specs.Tests.{codeLate, codeQuestions}
-use Rattle.calls.specs.Called.{readCall, replaceCall, ReplaceKind}
-use Rattle.calls.proofs.EarlyLaws.{late-first}
+use Rattle.machine.proofs.Questions.{Numbered, AllYes, firstNo-append, firstNo-none, firstNo-all, early-numbered, shape-is}
+use Rattle.calls.specs.Early.{wordsNumber, firstOf, cellNumber}
+use Rattle.calls.specs.Packets.{Operands}
+use Rattle.calls.specs.Writes.{Writable}
+use Rattle.calls.specs.Tests.{raisedWithin, freeByEnd, codeLate, codeQuestions}
+use Rattle.calls.specs.Called.{EarlyYes}
+use Rattle.calls.proofs.PacketLaws.{cell-inside}
 
 -- the first "no" of two lists, by numbers
 first-append : (ks ls : List Question) → Numbered ks → firstNo (ks ++ ls) ≡ firstOf (firstNo ks) (firstNo ls)
@@ -35,6 +41,10 @@ pub questions-split : (t : List ℕ) (q : Queue) (r : RowCall)
 unfolding codeQuestions
 questions-split t q r = first-append (early (store t q []) (row r)) (codeLate t q (packetOf t r)) (early-numbered (store t q []) (row r))
 
+first-both : (a b : ℕ) → firstOf a b ≡ 0 → (a ≡ 0) × (b ≡ 0)
+first-both zero b h = (refl, h)
+first-both (suc a) b h = absurd (omega arith)
+
 -- the early chains
 one-cell : (a b c : Bool) → refusedBy a 1 (refusedBy b 4 (refusedBy c 5 0)) ≡ firstOf (refusedBy a 1 (refusedBy b 4 0)) (refusedBy c 5 0)
 one-cell true true c = refl
@@ -48,115 +58,90 @@ number-cell true true false c = refl
 number-cell true false b c = refl
 number-cell false n b c = refl
 
--- a replace's field has a kind
-abbrev pub fieldKind : ℕ → ℕ
-fieldKind k = cond (eqb k left) 3 6
+number-some : (n : ℕ) → numberInRange n ≡ true → 1 ≤ n
+unfolding numberInRange
+number-some n h = leb-true 1 n (and-first (leb 1 n) (leb n ceiling) h)
 
-pub field-kind : (k : ℕ) → k ≤ right → ReplaceKind k (fieldKind k)
-field-kind zero l = inl (refl, refl)
-field-kind (suc zero) l = inr (refl, refl)
-field-kind (suc (suc k)) l = absurd (omega arith)
+-- a late "yes" of a cons: there is a first free cell
+third-yes : (a b c : Bool) (n : ℕ) → refusedBy a 6 (refusedBy b 7 (refusedBy c 8 n)) ≡ 0 → c ≡ true
+third-yes true true true n h = refl
+third-yes true true false n h = absurd (omega arith)
+third-yes true false c n h = absurd (omega arith)
+third-yes false b c n h = absurd (omega arith)
 
--- the field as the code reads it
-pub read-back : (t : List ℕ) (x k w : ℕ) → w ≡ wordAt t (x - 1) k → w ≡ field t x k
-unfolding field
-read-back t x k w e = e ∙ ap (λ (i : ℕ). wordAt t i k) (omega arith)
-
-pub replace-kinds : (k kind : ℕ) → ReplaceKind k kind → Replaces kind
-replace-kinds k kind = ⊎-elim (λ h. inl (h .1)) (λ h. inr (h .1))
+-- the number of each call's first "no" among questions 1 to 5, as the code finds it
+abbrev pub earlyNumber : List ℕ → Queue → RowCall → ℕ
+earlyNumber t q (car x) = cellNumber t q 1 x 0
+earlyNumber t q (cdr x) = cellNumber t q 1 x 0
+earlyNumber t q (cons x y) = wordsNumber t q 1 x y
+earlyNumber t q (setLeft x y) = cellNumber t q 1 x y
+earlyNumber t q (setRight x y) = cellNumber t q 1 x y
+earlyNumber t q (up x n) = cellNumber t q n x 0
+earlyNumber t q (down x n) = cellNumber t q n x 0
 
 module _ (t : List ℕ) (q : Queue) where
-  early-read : (k x : ℕ) → k ≤ right → firstNo (early (store t q []) (row (readCall k x))) ≡ cellNumber t q 1 x 0
+  pub early-number : (r : RowCall) → earlyNumber t q r ≡ firstNo (early (store t q []) (row r))
   unfolding firstNo early earlyRow wordsLegal xIsCell everyOf cellNumber wordsNumber numberInRange isLegal isNil
-  early-read zero x l = one-cell (inRange t q) (isLegal (capacity t) x && true) (isCell (capacity t) x)
-  early-read (suc zero) x l = one-cell (inRange t q) (isLegal (capacity t) x && true) (isCell (capacity t) x)
-  early-read (suc (suc k)) x l = absurd (omega arith)
+  early-number (car x) = sym (one-cell (inRange t q) (isLegal (capacity t) x && true) (isCell (capacity t) x))
+  early-number (cdr x) = sym (one-cell (inRange t q) (isLegal (capacity t) x && true) (isCell (capacity t) x))
+  early-number (cons x y) = rw (and-true (isLegal (capacity t) y))
+  early-number (setLeft x y) =
+      rw (and-true (isLegal (capacity t) y)) (sym (one-cell (inRange t q) (isLegal (capacity t) x && isLegal (capacity t) y) (isCell (capacity t) x)))
+  early-number (setRight x y) =
+      rw (and-true (isLegal (capacity t) y)) (sym (one-cell (inRange t q) (isLegal (capacity t) x && isLegal (capacity t) y) (isCell (capacity t) x)))
+  early-number (up x n) = sym (number-cell (inRange t q) (numberInRange n) (isLegal (capacity t) x && true) (isCell (capacity t) x))
+  early-number (down x n) = sym (number-cell (inRange t q) (numberInRange n) (isLegal (capacity t) x && true) (isCell (capacity t) x))
 
-  early-cons : (x y : ℕ) → firstNo (early (store t q []) (row (cons x y))) ≡ wordsNumber t q 1 x y
-  unfolding firstNo early earlyRow wordsLegal everyOf wordsNumber numberInRange
-  early-cons x y = rw (and-true (isLegal (capacity t) y))
+  -- of the call as the code's enum has it, once its variant is known
+  pub early-of : (asked : Asked) (call r : declared.RowCall) → call ≡ r → askedNumber asked ≡ earlyNumber t q (callOf r)
+      → askedNumber asked ≡ firstNo (early (store t q []) (row (callOf call)))
+  early-of asked call r e h = h ∙ early-number (callOf r) ∙ ap (λ (s : declared.RowCall). firstNo (early (store t q []) (row (callOf s)))) (sym e)
 
-  early-replace : (k x y : ℕ) → k ≤ right → firstNo (early (store t q []) (row (replaceCall k x y))) ≡ cellNumber t q 1 x y
-  unfolding firstNo early earlyRow wordsLegal xIsCell everyOf cellNumber wordsNumber numberInRange
-  early-replace zero x y l =
-      rw (and-true (isLegal (capacity t) y)) (one-cell (inRange t q) (isLegal (capacity t) x && isLegal (capacity t) y) (isCell (capacity t) x))
-  early-replace (suc zero) x y l =
-      rw (and-true (isLegal (capacity t) y)) (one-cell (inRange t q) (isLegal (capacity t) x && isLegal (capacity t) y) (isCell (capacity t) x))
-  early-replace (suc (suc k)) x y l = absurd (omega arith)
+  all-early : (r : RowCall) → firstNo (early (store t q []) (row r)) ≡ 0 → AllYes (early (store t q []) (row r))
+  all-early r h = firstNo-all (early (store t q []) (row r)) (early-numbered (store t q []) (row r)) h
 
-  early-up : (x n : ℕ) → firstNo (early (store t q []) (row (up x n))) ≡ cellNumber t q n x 0
-  unfolding firstNo early earlyRow wordsLegal xIsCell everyOf cellNumber wordsNumber isLegal isNil
-  early-up x n = number-cell (inRange t q) (numberInRange n) (isLegal (capacity t) x && true) (isCell (capacity t) x)
+  pub early-shape : (r : RowCall) → firstNo (early (store t q []) (row r)) ≡ 0 → Shape t q
+  unfolding early
+  early-shape r h = shape-is t q (all-early r h .0)
 
-  early-down : (x n : ℕ) → firstNo (early (store t q []) (row (down x n))) ≡ cellNumber t q n x 0
-  unfolding firstNo early earlyRow wordsLegal xIsCell everyOf cellNumber wordsNumber isLegal isNil
-  early-down x n = number-cell (inRange t q) (numberInRange n) (isLegal (capacity t) x && true) (isCell (capacity t) x)
+  pub early-operands : (r : RowCall) → firstNo (early (store t q []) (row r)) ≡ 0 → Operands t (packetOf t r)
+  unfolding early earlyRow xIsCell packetOf kindOf
+  early-operands (car x) h = all-early (car x) h .1 .1 .0
+  early-operands (cdr x) h = all-early (cdr x) h .1 .1 .0
+  early-operands (cons x y) h = tt
+  early-operands (setLeft x y) h = all-early (setLeft x y) h .1 .1 .0
+  early-operands (setRight x y) h = all-early (setRight x y) h .1 .1 .0
+  early-operands (up x n) h = all-early (up x n) h .1 .1 .1 .0
+  early-operands (down x n) h = let a = all-early (down x n) h in (a .1 .1 .1 .0, number-some n (a .1 .0))
 
-  -- the packets
-  pub read-packet : (k x : ℕ) → k ≤ right → packetOf t (readCall k x) ≡ packet 1 x (field t x k) 0
-  unfolding packetOf
-  read-packet zero x l = refl
-  read-packet (suc zero) x l = refl
-  read-packet (suc (suc k)) x l = absurd (omega arith)
+  pub passed-operands : (r : RowCall) (p : Packet) → EarlyYes t q r p → Operands t p
+  passed-operands r p y = subst (Operands t) (sym (y .packet)) (early-operands r (y .early))
 
-  pub replace-packet : (k kind x y : ℕ) → ReplaceKind k kind → packetOf t (replaceCall k x y) ≡ packet kind y (field t x k) x
-  unfolding packetOf
-  replace-packet k kind x y = ⊎-elim (λ (h : (k ≡ left) × (kind ≡ 3)). rw (h .0, h .1)) (λ (h : (k ≡ right) × (kind ≡ 6)). rw (h .0, h .1))
+  late-free : (x y : ℕ) → firstNo (codeLate t q (packetOf t (cons x y))) ≡ 0 → firstFree t ≡ 0 → ⊥
+  unfolding codeLate firstNo freeByEnd kindOf packetOf
+  late-free x y e =
+      let p = packetOf t (cons x y) in
+      eqb-false (firstFree t) 0
+      (not-true (eqb (firstFree t) 0)
+      (third-yes (heldEnough t (waiting q) p) (slotEmpty q) (not (eqb (firstFree t) 0))
+      (firstNo (ask 9 (raisedWithin root t (waiting q) p) ∷ ask 10 (raisedWithin cell t (waiting q) p) ∷ [])) e))
 
-  -- the whole of each call's questions
-  pub read-questions : (k x w : ℕ) → k ≤ right → w ≡ field t x k
-      → firstNo (codeQuestions t q (readCall k x)) ≡ firstOf (cellNumber t q 1 x 0) (firstNo (codeLate t q (packet 1 x w 0)))
-  read-questions k x w l e =
-      questions-split t q (readCall k x)
-      ∙ ap₂ (λ (a : ℕ) (p : Packet). firstOf a (firstNo (codeLate t q p))) (early-read k x l) (read-packet k x l ∙ ap (λ (d : ℕ). packet 1 x d 0) (sym e))
+  -- the cell that an accepted call writes is one of the table's
+  pub writable : (r : RowCall) → firstNo (codeQuestions t q r) ≡ 0 → Writable t r
+  unfolding packetOf kindOf
+  writable r h = go r (both .0) (both .1)
+    where
+      both : (firstNo (early (store t q []) (row r)) ≡ 0) × (firstNo (codeLate t q (packetOf t r)) ≡ 0)
+      both = first-both (firstNo (early (store t q []) (row r))) (firstNo (codeLate t q (packetOf t r))) (sym (questions-split t q r) ∙ h)
 
-  pub cons-questions : (x y : ℕ) → firstNo (codeQuestions t q (cons x y)) ≡ firstOf (wordsNumber t q 1 x y) (firstNo (codeLate t q (packet 2 x y (firstFree t))))
-  unfolding packetOf
-  cons-questions x y = questions-split t q (cons x y) ∙ ap (λ (a : ℕ). firstOf a (firstNo (codeLate t q (packet 2 x y (firstFree t))))) (early-cons x y)
-
-  pub replace-questions : (k kind x y d : ℕ) → k ≤ right → ReplaceKind k kind → d ≡ field t x k
-      → firstNo (codeQuestions t q (replaceCall k x y)) ≡ firstOf (cellNumber t q 1 x y) (firstNo (codeLate t q (packet kind y d x)))
-  replace-questions k kind x y d l h e =
-      questions-split t q (replaceCall k x y)
-      ∙ ap₂ (λ (a : ℕ) (p : Packet). firstOf a (firstNo (codeLate t q p))) (early-replace k x y l)
-      (replace-packet k kind x y h ∙ ap (λ (w : ℕ). packet kind y w x) (sym e))
-
-  pub up-questions : (x n : ℕ) → firstNo (codeQuestions t q (up x n)) ≡ firstOf (cellNumber t q n x 0) (firstNo (codeLate t q (packet 4 x n 0)))
-  unfolding packetOf
-  up-questions x n = questions-split t q (up x n) ∙ ap (λ (a : ℕ). firstOf a (firstNo (codeLate t q (packet 4 x n 0)))) (early-up x n)
-
-  pub down-questions : (x n : ℕ) → firstNo (codeQuestions t q (down x n)) ≡ firstOf (cellNumber t q n x 0) (firstNo (codeLate t q (packet 5 x n 0)))
-  unfolding packetOf
-  down-questions x n = questions-split t q (down x n) ∙ ap (λ (a : ℕ). firstOf a (firstNo (codeLate t q (packet 5 x n 0)))) (early-down x n)
-
-  -- where the early questions say "yes", the late answer is the call's
-  pub read-whole : (k x w : ℕ) (late : Asked) → k ≤ right → w ≡ wordAt t (x - 1) k → cellNumber t q 1 x 0 ≡ 0
-      → askedNumber late ≡ firstNo (codeLate t q (packet 1 x w 0)) → askedNumber late ≡ firstNo (codeQuestions t q (readCall k x))
-  read-whole k x w late l b z a =
-      late-first (firstNo (codeQuestions t q (readCall k x))) (cellNumber t q 1 x 0) (firstNo (codeLate t q (packet 1 x w 0))) late
-      (read-questions k x w l (read-back t x k w b)) z a
-
-  pub cons-whole : (x y : ℕ) (late : Asked) → wordsNumber t q 1 x y ≡ 0 → askedNumber late ≡ firstNo (codeLate t q (packet 2 x y (firstFree t)))
-      → askedNumber late ≡ firstNo (codeQuestions t q (cons x y))
-  cons-whole x y late z a =
-      late-first (firstNo (codeQuestions t q (cons x y))) (wordsNumber t q 1 x y) (firstNo (codeLate t q (packet 2 x y (firstFree t)))) late
-      (cons-questions x y) z a
-
-  pub replace-whole : (k x y d : ℕ) (late : Asked) → k ≤ right → d ≡ wordAt t (x - 1) k → cellNumber t q 1 x y ≡ 0
-      → ((kind : ℕ) → Replaces kind → askedNumber late ≡ firstNo (codeLate t q (packet kind y d x)))
-      → askedNumber late ≡ firstNo (codeQuestions t q (replaceCall k x y))
-  replace-whole k x y d late l b z a =
-      let kind = fieldKind k in
-      let of-field = field-kind k l in
-      late-first (firstNo (codeQuestions t q (replaceCall k x y))) (cellNumber t q 1 x y) (firstNo (codeLate t q (packet kind y d x))) late
-      (replace-questions k kind x y d l of-field (read-back t x k d b)) z (a kind (replace-kinds k kind of-field))
-
-  pub up-whole : (x n : ℕ) (late : Asked) → cellNumber t q n x 0 ≡ 0 → askedNumber late ≡ firstNo (codeLate t q (packet 4 x n 0))
-      → askedNumber late ≡ firstNo (codeQuestions t q (up x n))
-  up-whole x n late z a =
-      late-first (firstNo (codeQuestions t q (up x n))) (cellNumber t q n x 0) (firstNo (codeLate t q (packet 4 x n 0))) late (up-questions x n) z a
-
-  pub down-whole : (x n : ℕ) (late : Asked) → cellNumber t q n x 0 ≡ 0 → askedNumber late ≡ firstNo (codeLate t q (packet 5 x n 0))
-      → askedNumber late ≡ firstNo (codeQuestions t q (down x n))
-  down-whole x n late z a =
-      late-first (firstNo (codeQuestions t q (down x n))) (cellNumber t q n x 0) (firstNo (codeLate t q (packet 5 x n 0))) late (down-questions x n) z a
+      go : (s : RowCall) → firstNo (early (store t q []) (row s)) ≡ 0 → firstNo (codeLate t q (packetOf t s)) ≡ 0 → Writable t s
+      go (car x) a b = tt
+      go (cdr x) a b = tt
+      go (cons x y) a b =
+          let shape = early-shape (cons x y) a .table in
+          let d = late-free x y b in
+          record { some = omega arith; room = omega arith }
+      go (setLeft x y) a b = cell-inside t x (early-shape (setLeft x y) a .table) (early-operands (setLeft x y) a)
+      go (setRight x y) a b = cell-inside t x (early-shape (setRight x y) a .table) (early-operands (setRight x y) a)
+      go (up x n) a b = tt
+      go (down x n) a b = tt

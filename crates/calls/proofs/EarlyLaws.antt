@@ -3,16 +3,14 @@ use mathlib.Core.Path.{_≡_, refl, sym, ap, _∙_}
 use mathlib.Core.Logic.{⊎-elim}
 use mathlib.Core.Bool.{Bool, true, false, not}
 use mathlib.Core.List.{List}
-use Prim.Native.Nat.{ℕ, zero, suc, _-_, _≤_}
+use Prim.Native.Nat.{ℕ, zero, suc, _-_}
 use native.Mathlib.Omega.{arith}
-use lib.Dec.{leb}
-use lib.ListN.{length}
-use borrow.Author.Tests.{leb-true, not-true, not-false}
+use borrow.Author.Tests.{not-true, not-false}
 use Rattle.machine.specs.declared.Queue.{Queue}
-use Rattle.machine.specs.Words.{isCell, isLegal, ceiling}
-use Rattle.machine.specs.Table.{capacity, tableLength}
-use Rattle.machine.specs.Questions.{refusedBy, inRange, numberInRange, early}
-use Rattle.machine.proofs.Range.{tested, and-first}
+use Rattle.machine.specs.Words.{isCell, isLegal}
+use Rattle.machine.specs.Table.{capacity}
+use Rattle.machine.specs.Questions.{refusedBy, inRange, numberInRange}
+use Rattle.machine.proofs.Range.{tested}
 use Rattle.machine.specs.Facts.{Shape}
 use Rattle.machine.specs.declared.Asked
 use Rattle.machine.specs.declared.Asked.{Asked}
@@ -20,12 +18,7 @@ use Rattle.machine.specs.declared.Refusal.{Refusal}
 use Rattle.machine.specs.Answers.{askedNumber}
 use Rattle.machine.proofs.Answers.{refusal-some, asked-no, asked-yes}
 use Rattle.machine.proofs.Questions.{shape-is}
-use Rattle.machine.proofs.Words.{cell-index, cell-number}
 use Rattle.calls.specs.Early.{wordsNumber, firstOf, cellNumber}
-
-pub number-some : (n : ℕ) → numberInRange n ≡ true → 1 ≤ n
-unfolding numberInRange
-number-some n h = leb-true 1 n (and-first (leb 1 n) (leb n ceiling) h)
 
 first-some : (a b : ℕ) → (a ≡ 0 → ⊥) → firstOf a b ≡ a
 first-some zero b h = absurd (h refl)
@@ -70,29 +63,6 @@ module _ (t : List ℕ) (q : Queue) (n x y : ℕ) where
   pub words-shape : wordsNumber t q n x y ≡ 0 → Shape t q
   words-shape h = ⊎-elim (λ e. shape-is t q e) (λ e. absurd (omega (arith, words-1 e))) (tested (inRange t q))
 
-  pub words-some : wordsNumber t q n x y ≡ 0 → 1 ≤ n
-  words-some h = ⊎-elim (λ e. number-some n e) (λ e. absurd (three e)) (tested (numberInRange n))
-    where
-      three : numberInRange n ≡ false → ⊥
-      three e = ⊎-elim (λ a. omega (arith, words-3 a e)) (λ a. omega (arith, words-1 a)) (tested (inRange t q))
-
-pub first-both : (a b : ℕ) → firstOf a b ≡ 0 → (a ≡ 0) × (b ≡ 0)
-first-both zero b h = (refl, h)
-first-both (suc a) b h = absurd (omega arith)
-
-refused-five : (b : Bool) → refusedBy b 5 0 ≡ 0 → b ≡ true
-refused-five true h = refl
-refused-five false h = absurd (omega arith)
-
--- where questions 1 to 5 say "yes"
-pub cell-words : (t : List ℕ) (q : Queue) (n x y : ℕ) → cellNumber t q n x y ≡ 0 → wordsNumber t q n x y ≡ 0
-unfolding cellNumber
-cell-words t q n x y h = first-both (wordsNumber t q n x y) (refusedBy (isCell (capacity t) x) 5 0) h .0
-
-pub cell-is : (t : List ℕ) (q : Queue) (n x y : ℕ) → cellNumber t q n x y ≡ 0 → isCell (capacity t) x ≡ true
-unfolding cellNumber
-cell-is t q n x y h = refused-five (isCell (capacity t) x) (first-both (wordsNumber t q n x y) (refusedBy (isCell (capacity t) x) 5 0) h .1)
-
 -- an early "no" is the call's, and else the late answer is
 pub early-first : (total a b : ℕ) (r : Asked) (f : Refusal) → total ≡ firstOf a b → askedNumber r ≡ a → r ≡ Asked.No f → askedNumber r ≡ total
 early-first total a b r f e h d = h ∙ sym (first-some a b (λ z. omega (arith, refusal-some f, asked-no h d ∙ z))) ∙ sym e
@@ -105,37 +75,9 @@ pub words-first : (t : List ℕ) (q : Queue) (n x y : ℕ) (r : Asked) (f : Refu
 unfolding cellNumber
 words-first t q n x y r f h d = early-first (cellNumber t q n x y) (wordsNumber t q n x y) (refusedBy (isCell (capacity t) x) 5 0) r f refl h d
 
--- what questions 1 to 5 leave to the later ones where they say "yes"
-pub record Callable (t : List ℕ) (q : Queue) (n x : ℕ) : Type 0 where
-  pub shape : Shape t q
-  pub cell : isCell (capacity t) x ≡ true
-  pub inside : tableLength (suc (x - 1)) ≤ length t
-  pub first : 1 ≤ x
-  pub some : 1 ≤ n
-
-pub callable : (t : List ℕ) (q : Queue) (n x y : ℕ) → cellNumber t q n x y ≡ 0 → Callable t q n x
-callable t q n x y e =
-    let c = cell-is t q n x y e in
-    let w = cell-words t q n x y e in
-    let shape = words-shape t q n x y w in
-    let table = shape .table in
-    record {
-      shape = shape;
-      cell = c;
-      inside = omega (arith, cell-index (capacity t) x c);
-      first = omega (arith, cell-number (capacity t) x c);
-      some = words-some t q n x y w;
-    }
-
 module _ (t : List ℕ) (q : Queue) (n x y : ℕ) (r : Asked) (yes : r ≡ Asked.Yes) where
-  pub words-accepted : askedNumber r ≡ wordsNumber t q n x y → wordsNumber t q n x y ≡ 0
-  words-accepted h = sym (asked-yes h yes)
-
-  pub cell-accepted : askedNumber r ≡ cellNumber t q n x y → cellNumber t q n x y ≡ 0
-  cell-accepted h = sym (asked-yes h yes)
-
   pub words-ready : askedNumber r ≡ wordsNumber t q n x y → Shape t q
-  words-ready h = words-shape t q n x y (words-accepted h)
+  words-ready h = words-shape t q n x y (sym (asked-yes h yes))
 
   pub cell-yes : askedNumber r ≡ wordsNumber t q n x y → isCell (capacity t) x ≡ true → 0 ≡ cellNumber t q n x y
   unfolding cellNumber

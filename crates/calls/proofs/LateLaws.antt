@@ -1,4 +1,4 @@
--- Questions 6 to 10 of each call, by its operands' sums: no code here.
+-- Questions 6 to 10 of each call, by its operands' sums, whatever the packet's word c where no question looks at it: no code here.
 use mathlib.Core.Path.{_≡_, refl, sym, ap, ap₂, _∙_}
 use mathlib.Core.Logic.{⊎-elim}
 use mathlib.Core.Bool.{Bool, true, false, not, _&&_, _||_}
@@ -160,18 +160,18 @@ pointers-after t ps w s h p more less a b small =
     word-within cell 0 t ps w (s .pointers .raised) (s .pointers .lowered) (h .pointers) p more less a b (omega arith) small
 
 -- a read of x that gives w
-read-late : (t : List ℕ) (q : Queue) (x w : ℕ) (sx sw : Sums) (same : ℕ) → isCell (capacity t) x ≡ true → TallyOf t (waiting q) x sx
-    → TallyOf t (waiting q) w sw → same ≡ matching x w 1 → firstNo (codeLate t q (packet 1 x w 0)) ≡ readNumber q sx sw same
+read-late : (t : List ℕ) (q : Queue) (x w z : ℕ) (sx sw : Sums) (same : ℕ) → isCell (capacity t) x ≡ true → TallyOf t (waiting q) x sx
+    → TallyOf t (waiting q) w sw → same ≡ matching x w 1 → firstNo (codeLate t q (packet 1 x w z)) ≡ readNumber q sx sw same
 unfolding codeLate firstNo freeByEnd kindOf raisedWithin raisedWords uses usesOf changes changesOf movedBy everyOf
-read-late t q x w sx sw same hx tx tw e =
-    let p = packet 1 x w 0 in
+read-late t q x w z sx sw same hx tx tw e =
+    let p = packet 1 x w z in
     let six = one-held t (waiting q) p x 1 (sx .held .raised) (sx .held .lowered) hx (tx .held) (λ y. refl) (omega arith) in
     let nine = held-after t (waiting q) w sw tw p 1 same (omega (arith, matching-same w w 1 refl)) (omega arith) (λ _. omega arith) in
     rw (six, nine, and-true (heldAfter sw 1 same))
 
 pub read-asked : (t : List ℕ) (q : Queue) (x w : ℕ) (sx sw : Sums) (same a : ℕ) → isCell (capacity t) x ≡ true → TallyOf t (waiting q) x sx
-    → TallyOf t (waiting q) w sw → same ≡ matching x w 1 → a ≡ readNumber q sx sw same → a ≡ firstNo (codeLate t q (packet 1 x w 0))
-read-asked t q x w sx sw same a hx tx tw e z = z ∙ sym (read-late t q x w sx sw same hx tx tw e)
+    → TallyOf t (waiting q) w sw → same ≡ matching x w 1 → a ≡ readNumber q sx sw same → (z : ℕ) → a ≡ firstNo (codeLate t q (packet 1 x w z))
+read-asked t q x w sx sw same a hx tx tw e d z = d ∙ sym (read-late t q x w z sx sw same hx tx tw e)
 
 -- a cons of x and y
 cons-late : (t : List ℕ) (q : Queue) (x y z : ℕ) (sx sy : Sums) (same : ℕ) → TallyOf t (waiting q) x sx → TallyOf t (waiting q) y sy
@@ -187,9 +187,8 @@ cons-late t q x y z sx sy same tx ty e =
     rw (six, ten-x, ten-y, and-true (pointersAfter sy (1 + same) 0), refused-and (heldTimes sx (1 + same)) (heldTimes sy (1 + same)), refused-and)
 
 pub cons-asked : (t : List ℕ) (q : Queue) (x y : ℕ) (sx sy : Sums) (same first a : ℕ) → TallyOf t (waiting q) x sx → TallyOf t (waiting q) y sy
-    → same ≡ matching y x 1 → first ≡ firstFree t → a ≡ consNumber q sx sy same first → a ≡ firstNo (codeLate t q (packet 2 x y (firstFree t)))
-cons-asked t q x y sx sy same first a tx ty e f z =
-    z ∙ ap (consNumber q sx sy same) f ∙ sym (cons-late t q x y (firstFree t) sx sy same tx ty e)
+    → same ≡ matching y x 1 → first ≡ firstFree t → a ≡ consNumber q sx sy same first → (z : ℕ) → a ≡ firstNo (codeLate t q (packet 2 x y z))
+cons-asked t q x y sx sy same first a tx ty e f d z = d ∙ ap (consNumber q sx sy same) f ∙ sym (cons-late t q x y z sx sy same tx ty e)
 
 -- a replace in x by y that detaches d, of either kind
 replace-late : (t : List ℕ) (q : Queue) (n field y d x : ℕ) (sy sx : Sums) (same kept : ℕ) → kindOf n ≡ replaces field → TallyOf t (waiting q) y sy
@@ -212,24 +211,24 @@ replace-either t q y d x sy sx same kept a ty tx e g z kind =
     (λ h. z ∙ sym (replace-late t q kind right y d x sy sx same kept (ap kindOf h) ty tx e g))
 
 -- up and down of x by n
-up-late : (t : List ℕ) (q : Queue) (x n : ℕ) (s : Sums) → isCell (capacity t) x ≡ true → TallyOf t (waiting q) x s
-    → firstNo (codeLate t q (packet 4 x n 0)) ≡ upNumber q s n
+up-late : (t : List ℕ) (q : Queue) (x n z : ℕ) (s : Sums) → isCell (capacity t) x ≡ true → TallyOf t (waiting q) x s
+    → firstNo (codeLate t q (packet 4 x n z)) ≡ upNumber q s n
 unfolding codeLate firstNo freeByEnd kindOf raisedWithin raisedWords uses usesOf changes changesOf movedBy everyOf
-up-late t q x n s hx h =
-    let p = packet 4 x n 0 in
+up-late t q x n z s hx h =
+    let p = packet 4 x n z in
     let six = one-held t (waiting q) p x 1 (s .held .raised) (s .held .lowered) hx (h .held) (λ y. refl) (omega arith) in
     let nine = held-after t (waiting q) x s h p n 0 (omega (arith, matching-same x x n refl)) (omega arith) (λ f. absurd (not-both hx f)) in
     rw (six, nine, and-true (heldAfter s n 0))
 
 pub up-asked : (t : List ℕ) (q : Queue) (x n : ℕ) (s : Sums) (a : ℕ) → isCell (capacity t) x ≡ true → TallyOf t (waiting q) x s → a ≡ upNumber q s n
-    → a ≡ firstNo (codeLate t q (packet 4 x n 0))
-up-asked t q x n s a hx h z = z ∙ sym (up-late t q x n s hx h)
+    → (z : ℕ) → a ≡ firstNo (codeLate t q (packet 4 x n z))
+up-asked t q x n s a hx h d z = d ∙ sym (up-late t q x n z s hx h)
 
-down-late : (t : List ℕ) (q : Queue) (x n : ℕ) (s : Sums) → isCell (capacity t) x ≡ true → 1 ≤ n → TallyOf t (waiting q) x s
-    → firstNo (codeLate t q (packet 5 x n 0)) ≡ downNumber q s n
+down-late : (t : List ℕ) (q : Queue) (x n z : ℕ) (s : Sums) → isCell (capacity t) x ≡ true → 1 ≤ n → TallyOf t (waiting q) x s
+    → firstNo (codeLate t q (packet 5 x n z)) ≡ downNumber q s n
 unfolding codeLate firstNo freeByEnd kindOf raisedWithin raisedWords uses usesOf changes changesOf everyOf
-down-late t q x n s hx l h = rw (one-held t (waiting q) (packet 5 x n 0) x n (s .held .raised) (s .held .lowered) hx (h .held) (λ y. refl) l)
+down-late t q x n z s hx l h = rw (one-held t (waiting q) (packet 5 x n z) x n (s .held .raised) (s .held .lowered) hx (h .held) (λ y. refl) l)
 
 pub down-asked : (t : List ℕ) (q : Queue) (x n : ℕ) (s : Sums) (a : ℕ) → isCell (capacity t) x ≡ true → 1 ≤ n → TallyOf t (waiting q) x s → a ≡ downNumber q s n
-    → a ≡ firstNo (codeLate t q (packet 5 x n 0))
-down-asked t q x n s a hx l h z = z ∙ sym (down-late t q x n s hx l h)
+    → (z : ℕ) → a ≡ firstNo (codeLate t q (packet 5 x n z))
+down-asked t q x n s a hx l h d z = d ∙ sym (down-late t q x n z s hx l h)

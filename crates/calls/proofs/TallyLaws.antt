@@ -7,7 +7,7 @@ use native.Mathlib.Omega.{arith}
 use Rattle.machine.specs.Words.{isCell}
 use Rattle.machine.specs.Table.{capacity, wordAt}
 use Rattle.machine.specs.Queue.{Packet}
-use Rattle.machine.specs.Packets.{Counter, cell}
+use Rattle.machine.specs.Packets.{Counter}
 use Rattle.machine.specs.Step.{counterWord}
 use Rattle.machine.proofs.Range.{not-both}
 use Rattle.queue.specs.Sums.{CounterSums, WithCount}

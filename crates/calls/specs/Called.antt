@@ -1,35 +1,43 @@
 -- What a row call and a fresh give, for any table, queue and numbers: refused with nothing changed, or done as the machine does it.
 use mathlib.Core.Path.{_≡_}
-use mathlib.Core.Logic.{_⊎_}
-use mathlib.Core.Bool.{cond}
 use mathlib.Core.List.{List, []}
 use Prim.Native.Nat.{ℕ}
-use lib.Dec.{eqb}
 use Rattle.machine.specs.declared.Queue.{Queue}
+use Rattle.machine.specs.declared.Asked
+use Rattle.machine.specs.declared.Asked.{Asked}
+use Rattle.machine.specs.declared.RowAnswer
 use Rattle.machine.specs.declared.RowAnswer.{RowAnswer}
 use Rattle.machine.specs.declared.FreshAnswer.{FreshAnswer}
-use Rattle.machine.specs.Table.{left, right}
-use Rattle.machine.specs.Calls.{RowCall, car, cdr, setLeft, setRight, row, fresh, store}
+use Rattle.machine.specs.Queue.{Packet}
+use Rattle.machine.specs.Calls.{RowCall, row, fresh, store, packetOf}
 use Rattle.machine.specs.Step.{Outcome}
-use Rattle.machine.specs.Questions.{firstNo}
+use Rattle.machine.specs.Questions.{firstNo, early}
 use Rattle.machine.specs.Machine.{answered, machine}
 use Rattle.machine.specs.Answers.{rowReply, freshReply}
 use Rattle.calls.specs.Tests.{codeQuestions}
 
--- car reads the left field, cdr the right
-abbrev pub readCall : ℕ → ℕ → RowCall
-readCall k x = cond (eqb k left) (car x) (cdr x)
+-- questions 1 to 5 say "yes" of the call r, and p is its packet
+pub record EarlyYes (t : List ℕ) (q : Queue) (r : RowCall) (p : Packet) : Type 0 where
+  pub early : firstNo (early (store t q []) (row r)) ≡ 0
+  pub packet : p ≡ packetOf t r
 
--- the two replaces, by the field replaced, and their kinds
-abbrev pub replaceCall : ℕ → ℕ → ℕ → RowCall
-replaceCall k x y = cond (eqb k left) (setLeft x y) (setRight x y)
-
-abbrev pub ReplaceKind : ℕ → ℕ → Type 0
-ReplaceKind k kind = ((k ≡ left) × (kind ≡ 3)) ⊎ ((k ≡ right) × (kind ≡ 6))
+-- the answer of a call whose questions said this, and whose value is v
+abbrev pub answerOf : Asked → ℕ → RowAnswer
+answerOf Asked.Yes v = RowAnswer.Done v
+answerOf (Asked.No f) v = RowAnswer.Refused f
 
 -- the machine's answer to a row call under the code's questions
 unfoldable pub outcomeOf : List ℕ → Queue → RowCall → Outcome
 outcomeOf t q r = answered (firstNo (codeQuestions t q r)) (store t q []) (row r)
+
+-- the call but for what it writes
+pub record RowAsked (t : List ℕ) (q : Queue) (r : RowCall) (a : RowAnswer) (q′ : Queue) : Type 0 where
+  pub reply : rowReply a ≡ outcomeOf t q r .reply
+  pub queue : q′ ≡ outcomeOf t q r .after .queue
+
+-- which is so of every call of the packet p that questions 1 to 5 have passed
+abbrev pub Queued : List ℕ → Queue → Packet → RowAnswer → Queue → Type 0
+Queued t q p a q′ = (r : RowCall) → EarlyYes t q r p → RowAsked t q r a q′
 
 pub record RowCalled (t : List ℕ) (q : Queue) (r : RowCall) (a : RowAnswer) (t′ : List ℕ) (q′ : Queue) : Type 0 where
   pub reply : rowReply a ≡ outcomeOf t q r .reply

@@ -1,4 +1,6 @@
 pub mod Early
+pub mod Packets
+pub mod Writes
 pub mod Tests
 pub mod Tally
 pub mod Called

@@ -1,14 +1,18 @@
 // Questions 1 to 5, which have an answer on every store and look at no packet.
 use machine::Asked;
 use machine::Refusal;
+use machine::RowCall;
 ghost use mathlib.Core.Path.{_≡_};
+ghost use mathlib.Core.List.{[]};
 ghost use Rattle.machine.specs.declared.Queue.{Queue};
 ghost use Rattle.machine.specs.Queue.{placed};
-ghost use Rattle.machine.specs.Answers.{askedNumber};
+ghost use Rattle.machine.specs.Calls.{row, store};
+ghost use Rattle.machine.specs.Questions.{firstNo, early};
+ghost use Rattle.machine.specs.Answers.{askedNumber, callOf};
 ghost use Rattle.calls.specs.Early.{wordsNumber, cellNumber};
 
 // Questions 1, 3 and 4 of a call with the number n and the words x and y; a call without a number has 1 for n, one without y has nil.
-pub fn words_asked(table: &[u16], place: u16, count: u16, n: u16, x: u16, y: u16) -> Asked
+fn words_asked(table: &[u16], place: u16, count: u16, n: u16, x: u16, y: u16) -> Asked
     ensures { λ r. ⌜ ((q : Queue) → askedNumber r ≡ wordsNumber (now (table .entry)) (placed q place count) n x y) ⌝ }
 {
     if !questions::in_range(table, place, count) {
@@ -28,7 +32,7 @@ pub fn words_asked(table: &[u16], place: u16, count: u16, n: u16, x: u16, y: u16
 }
 
 // And question 5: x is a cell.
-pub fn cell_asked(table: &[u16], place: u16, count: u16, n: u16, x: u16, y: u16) -> Asked
+fn cell_asked(table: &[u16], place: u16, count: u16, n: u16, x: u16, y: u16) -> Asked
     ensures { λ r. ⌜ ((q : Queue) → askedNumber r ≡ cellNumber (now (table .entry)) (placed q place count) n x y) ⌝ }
 {
     let words = words_asked(table, place, count, n, x, y);
@@ -39,4 +43,18 @@ pub fn cell_asked(table: &[u16], place: u16, count: u16, n: u16, x: u16, y: u16)
         return Asked::Yes;
     }
     Asked::No(Refusal::NotACell)
+}
+
+pub fn early_asked(table: &[u16], place: u16, count: u16, call: RowCall) -> Asked
+    ensures { λ r. ⌜ ((q : Queue) → askedNumber r ≡ firstNo (early (store (now (table .entry)) (placed q place count) []) (row (callOf call)))) ⌝ }
+{
+    match call {
+        RowCall::Car(x) => cell_asked(table, place, count, 1, x, 0),
+        RowCall::Cdr(x) => cell_asked(table, place, count, 1, x, 0),
+        RowCall::Cons(x, y) => words_asked(table, place, count, 1, x, y),
+        RowCall::SetLeft(x, y) => cell_asked(table, place, count, 1, x, y),
+        RowCall::SetRight(x, y) => cell_asked(table, place, count, 1, x, y),
+        RowCall::Up(x, n) => cell_asked(table, place, count, n, x, 0),
+        RowCall::Down(x, n) => cell_asked(table, place, count, n, x, 0),
+    }
 }

@@ -1,21 +1,26 @@
-// Questions 6 to 10 as the code asks them of a call on two words, once questions 1 to 5 have said "yes".
+// Questions 6 to 10 as the code asks them of the call behind a packet, once questions 1 to 5 have said "yes".
 use crate::operands::tally_of;
 use crate::tests::cons_tests;
+use crate::tests::down_tests;
 use crate::tests::read_tests;
 use crate::tests::replace_tests;
+use crate::tests::up_tests;
 use machine::Asked;
+use queue::Packet;
 ghost use mathlib.Core.Path.{_≡_};
 ghost use mathlib.Core.Bool.{true};
 ghost use Prim.Native.Nat.{ℕ, _≤_, _<_};
 ghost use Rattle.machine.specs.Words.{isCell};
-ghost use Rattle.machine.specs.Table.{capacity, firstFree};
+ghost use Rattle.machine.specs.Table.{capacity};
 ghost use Rattle.machine.specs.Queue.{packet, slots};
 ghost use Rattle.machine.specs.Facts.{TableShape};
+ghost use Rattle.queue.specs.Sums.{packetOf};
 ghost use Rattle.calls.specs.Early.{Replaces};
+ghost use Rattle.calls.specs.Packets.{Operands};
 ghost use Rattle.calls.specs.Tests.{LateAnswer};
 
 // Of a read of x that gives w.
-pub fn read_late<'q>(
+fn read_late<'q>(
     table: &[u16],
     kinds: &'q [u16; 64],
     a: &'q [u16; 64],
@@ -26,14 +31,14 @@ pub fn read_late<'q>(
     w: u16,
 ) -> Asked
     requires { ⌜ TableShape (now table) × (place < slots) × (count ≤ slots) × (isCell (capacity (now table)) x ≡ true) ⌝ }
-    ensures { λ r. ⌜ LateAnswer (now (table .entry)) (now (kinds .entry)) (now (a .entry)) (now (b .entry)) place count (packet 1 x w 0) r ⌝ }
+    ensures { λ r. ⌜ ((z : ℕ) → LateAnswer (now (table .entry)) (now (kinds .entry)) (now (a .entry)) (now (b .entry)) place count (packet 1 x w z) r) ⌝ }
 {
     let tx = tally_of(table, kinds, a, b, place, count, x);
     let tw = tally_of(table, kinds, a, b, place, count, w);
     read_tests(count, tx, tw, queue::matched(x, w, 1))
 }
 
-pub fn cons_late<'q>(
+fn cons_late<'q>(
     table: &[u16],
     kinds: &'q [u16; 64],
     a: &'q [u16; 64],
@@ -44,8 +49,7 @@ pub fn cons_late<'q>(
     y: u16,
 ) -> Asked
     requires { ⌜ TableShape (now table) × (place < slots) × (count ≤ slots) ⌝ }
-    ensures { λ r. ⌜ LateAnswer (now (table .entry)) (now (kinds .entry)) (now (a .entry)) (now (b .entry)) place count
-        (packet 2 x y (firstFree (now (table .entry)))) r ⌝ }
+    ensures { λ r. ⌜ ((z : ℕ) → LateAnswer (now (table .entry)) (now (kinds .entry)) (now (a .entry)) (now (b .entry)) place count (packet 2 x y z) r) ⌝ }
 {
     let tx = tally_of(table, kinds, a, b, place, count, x);
     let ty = tally_of(table, kinds, a, b, place, count, y);
@@ -54,7 +58,7 @@ pub fn cons_late<'q>(
 }
 
 // Of a replace in x by y that detaches d, whichever the field.
-pub fn replace_late<'q>(
+fn replace_late<'q>(
     table: &[u16],
     kinds: &'q [u16; 64],
     a: &'q [u16; 64],
@@ -73,4 +77,26 @@ pub fn replace_late<'q>(
     let tx = tally_of(table, kinds, a, b, place, count, x);
     let same = queue::matched(x, y, 1);
     replace_tests(count, ty, tx, same, queue::matched(d, y, 1))
+}
+
+pub fn late_asked<'q>(
+    table: &[u16],
+    kinds: &'q [u16; 64],
+    a: &'q [u16; 64],
+    b: &'q [u16; 64],
+    place: u16,
+    count: u16,
+    p: Packet,
+) -> Asked
+    requires { ⌜ TableShape (now table) × (place < slots) × (count ≤ slots) × Operands (now table) (packetOf p) ⌝ }
+    ensures { λ r. ⌜ LateAnswer (now (table .entry)) (now (kinds .entry)) (now (a .entry)) (now (b .entry)) place count (packetOf p) r ⌝ }
+{
+    let kind = p.kind;
+    match kind {
+        Packet::READ => read_late(table, kinds, a, b, place, count, p.a, p.b),
+        Packet::CONS => cons_late(table, kinds, a, b, place, count, p.a, p.b),
+        Packet::UP => up_tests(count, tally_of(table, kinds, a, b, place, count, p.a), p.b),
+        Packet::DOWN => down_tests(count, tally_of(table, kinds, a, b, place, count, p.a), p.b),
+        _ => replace_late(table, kinds, a, b, place, count, p.a, p.b, p.c),
+    }
 }

@@ -1,4 +1,4 @@
-// The packet queue: append, the packet in a slot, and the sums of waiting changes of one cell.
+// The packet queue: where its slots lie, the packet in a slot, and the sums of waiting changes of one cell.
 use machine::CellCount;
 use machine::Queue;
 use machine::RootCount;
@@ -6,7 +6,7 @@ ghost use mathlib.Core.Path.{_≡_};
 ghost use mathlib.Core.List.{List};
 ghost use Prim.Native.Nat.{ℕ, suc, _+_, _%_, _<_, _≤_};
 ghost use Rattle.machine.specs.Range.{matching};
-ghost use Rattle.machine.specs.Queue.{packet, slots, queueOf, slot, appended, waiting};
+ghost use Rattle.machine.specs.Queue.{slots, queueOf, slot, waiting};
 ghost use Rattle.machine.specs.Words.{largestWord};
 ghost use Rattle.queue.specs.Sums.{packetOf, AtMost, WithCount, atLeast, atMostCeiling, Bounded, Added, SumsOf};
 
@@ -107,22 +107,6 @@ impl PointerSums {
 pub struct Sums {
     pub held: HeldSums,
     pub pointers: PointerSums,
-}
-
-pub fn append(queue: Queue, p: Packet) -> Queue
-    requires { ⌜ (queue .place < slots) × (queue .count < slots) ⌝ }
-    ensures { λ r. ⌜ r ≡ appended queue (packetOf p) ⌝ }
-{
-    let place = queue.place;
-    let count = queue.count;
-    let j = slot_after(place, count);
-    let mut next = queue;
-    next.kinds[j] = p.kind;
-    next.a[j] = p.a;
-    next.b[j] = p.b;
-    next.c[j] = p.c;
-    next.count = count + 1;
-    next
 }
 
 // The packet in slot j.

@@ -1,120 +1,61 @@
+use Rattle.machine.specs.Answers.{callOf}
+use Rattle.calls.proofs.CallLaws.{writable}
+use Rattle.calls.proofs.RowLaws.{done-yes, done-called, refused-called}
 use borrow.Author.Needs.{needs}
 use Rattle.calls.proofs.row.Statement.{statement}
 use Rattle.calls.proofs.row.Tie as tie
 
-enum-known-call : tie.Need-enum-known-call
-enum-known-call c = search needs
+asked-row-requires : tie.Need-asked-row-requires
+asked-row-requires c κs = search needs
 
-car-requires : tie.Need-car-requires
-car-requires c κs = search needs
+enum-told : tie.Need-enum-told
+enum-told c = search needs
 
-enum-known-call-2 : tie.Need-enum-known-call-2
-enum-known-call-2 c = search needs
+write-requires : tie.Need-write-requires
+write-requires c κs =
+    let at-told = c .before in
+    let at-asked = at-told .before .before in
+    let i = at-asked .before .before .before .args in
+    let t = i .table .now in
+    let r = callOf (i .call) in
+    let reply = at-asked .asked-row in
+    writable t (i .queue) r (done-yes t (i .queue) r (reply .result .answer) (reply .result .queue) (reply .ensures) _ (at-told .enum-told .given .1))
 
-cdr-requires : tie.Need-cdr-requires
-cdr-requires c κs = search needs
-
-enum-known-call-3 : tie.Need-enum-known-call-3
-enum-known-call-3 c = search needs
-
-cons-requires : tie.Need-cons-requires
-cons-requires c κs = search needs
-
-enum-known-call-4 : tie.Need-enum-known-call-4
-enum-known-call-4 c = search needs
-
-set-left-requires : tie.Need-set-left-requires
-set-left-requires c κs = search needs
-
-enum-known-call-5 : tie.Need-enum-known-call-5
-enum-known-call-5 c = search needs
-
-set-right-requires : tie.Need-set-right-requires
-set-right-requires c κs = search needs
-
-enum-known-call-6 : tie.Need-enum-known-call-6
-enum-known-call-6 c = search needs
-
-up-requires : tie.Need-up-requires
-up-requires c κs = search needs
-
-enum-known-call-7 : tie.Need-enum-known-call-7
-enum-known-call-7 c = search needs
-
-down-requires : tie.Need-down-requires
-down-requires c κs = search needs
+enum-told-2 : tie.Need-enum-told-2
+enum-told-2 c = search needs
 
 same-length : tie.Need-same-length
 same-length c = search needs
 
 returns : tie.Need-returns
-returns c = rw (c .before .before .before .call .given .1) (c .car .ensures)
+returns c =
+    let at-write = c .before .before in
+    let at-told = at-write .before .before in
+    let at-asked = at-told .before .before in
+    let i = at-asked .before .before .before .args in
+    let reply = at-asked .asked-row in
+    done-called (i .table .now) (i .queue) (callOf (i .call)) (reply .result .answer) (reply .result .queue) (reply .ensures) _ _
+    (at-told .enum-told .given .1) (at-write .write .ensures)
 
 same-length-2 : tie.Need-same-length-2
 same-length-2 c = search needs
 
 returns-2 : tie.Need-returns-2
-returns-2 c = rw (c .before .before .before .call2 .given .1) (c .cdr .ensures)
-
-same-length-3 : tie.Need-same-length-3
-same-length-3 c = search needs
-
-returns-3 : tie.Need-returns-3
-returns-3 c = rw (c .before .before .before .before .before .call3 .given .1) (c .before .before .cons .ensures)
-
-same-length-4 : tie.Need-same-length-4
-same-length-4 c = search needs
-
-returns-4 : tie.Need-returns-4
-returns-4 c = rw (c .before .before .before .before .before .call4 .given .1) (c .before .before .set-left .ensures)
-
-same-length-5 : tie.Need-same-length-5
-same-length-5 c = search needs
-
-returns-5 : tie.Need-returns-5
-returns-5 c = rw (c .before .before .before .before .before .call5 .given .1) (c .before .before .set-right .ensures)
-
-same-length-6 : tie.Need-same-length-6
-same-length-6 c = search needs
-
-returns-6 : tie.Need-returns-6
-returns-6 c = rw (c .before .before .before .call6 .given .1) (c .up .ensures)
-
-same-length-7 : tie.Need-same-length-7
-same-length-7 c = search needs
-
-returns-7 : tie.Need-returns-7
-returns-7 c = rw (c .before .before .before .call7 .given .1) (c .down .ensures)
+returns-2 c =
+    let at-asked = c .before .before in
+    let i = at-asked .before .before .before .args in
+    let reply = at-asked .asked-row in
+    refused-called (i .table .now) (i .queue) (callOf (i .call)) (reply .result .answer) (reply .result .queue) (reply .ensures) _ (c .enum-told2 .given .1)
 
 pub row-spec : {M : Type 1} → statement M
 row-spec =
     tie.close
     (tie.spec
-    enum-known-call
-    car-requires
-    enum-known-call-2
-    cdr-requires
-    enum-known-call-3
-    cons-requires
-    enum-known-call-4
-    set-left-requires
-    enum-known-call-5
-    set-right-requires
-    enum-known-call-6
-    up-requires
-    enum-known-call-7
-    down-requires
+    asked-row-requires
+    enum-told
+    write-requires
+    enum-told-2
     same-length
     returns
     same-length-2
-    returns-2
-    same-length-3
-    returns-3
-    same-length-4
-    returns-4
-    same-length-5
-    returns-5
-    same-length-6
-    returns-6
-    same-length-7
-    returns-7)
+    returns-2)

@@ -20,7 +20,7 @@ cons-tests-requires : tie.Need-cons-tests-requires
 cons-tests-requires c κs = search needs
 
 returns : tie.Need-returns
-returns c w =
+returns c z w =
     let at-same = c .before .before in
     let at-y = at-same .before in
     let at-x = at-y .before in
@@ -31,7 +31,7 @@ returns c w =
     let same = at-same .matched in
     let first = c .before .first-free in
     cons-asked (i .table .now) q (i .x) (i .y) (x .result) (y .result) (same .result) (first .result) _
-    (x .ensures .0 w) (y .ensures .0 w) (same .ensures .0) (first .ensures) (c .cons-tests .ensures q)
+    (x .ensures .0 w) (y .ensures .0 w) (same .ensures .0) (first .ensures) (c .cons-tests .ensures q) z
 
 pub cons-late-spec : {M : Type 1} → statement M
 cons-late-spec =

@@ -17,7 +17,7 @@ read-tests-requires : tie.Need-read-tests-requires
 read-tests-requires c κs = search needs
 
 returns : tie.Need-returns
-returns c w =
+returns c z w =
     let at-same = c .before in
     let at-w = at-same .before in
     let at-x = at-w .before in
@@ -25,7 +25,7 @@ returns c w =
     let i = start .args in
     let q = queueOf (i .kinds .now) (i .a .now) (i .b .now) w (i .place) (i .count) in
     read-asked (i .table .now) q (i .x) (i .w) (at-x .tally-of .result) (at-w .tally-of2 .result) (at-same .matched .result) _
-    (start .pre .3) (at-x .tally-of .ensures .0 w) (at-w .tally-of2 .ensures .0 w) (at-same .matched .ensures .0) (c .read-tests .ensures q)
+    (start .pre .3) (at-x .tally-of .ensures .0 w) (at-w .tally-of2 .ensures .0 w) (at-same .matched .ensures .0) (c .read-tests .ensures q) z
 
 pub read-late-spec : {M : Type 1} → statement M
 read-late-spec =

@@ -1,8 +1,8 @@
 use borrow.Author.Tests.{ne-eqb}
 use borrow.Author.Needs.{needs}
 use Rattle.questions.proofs.Rules.{chain}
-use Rattle.calls.proofs.end_without_first.Statement.{statement}
-use Rattle.calls.proofs.end_without_first.Tie as tie
+use Rattle.calls.proofs.writes.end_without_first.Statement.{statement}
+use Rattle.calls.proofs.writes.end_without_first.Tie as tie
 
 returns : tie.Need-returns
 returns c = search chain
