@@ -136,16 +136,16 @@ def call():
     d = Drawing(1060, 640)
     d.text(20, 28, "A row call: the line cons 1 0, third of a session", 15, "bold", "start")
     d.box("parse", 20, 50, 190, 62, "text", ["line_text::parse", "bytes to a request", "requestOf"])
-    d.box("serve", 240, 50, 190, 62, "text", ["session_lines::serve", "one call of the store", "Serves"])
-    d.box("store", 460, 50, 190, 62, "face", ["store::cons", "the public call", "Promise"])
-    d.box("calls", 680, 50, 190, 62, "code", ["calls::cons", "first asks, then writes", "RowCalled"])
+    d.box("serve", 240, 50, 190, 62, "text", ["session_lines", "one loop over the lines", "Feeds"])
+    d.box("store", 460, 50, 190, 62, "face", ["store::row", "the public call", "Promise"])
+    d.box("calls", 680, 50, 190, 62, "code", ["calls::row", "first asks, then writes", "RowCalled"])
     d.box("early", 560, 160, 200, 62, "code", ["questions", "1, 4 and 7:", "shape, words, slots"])
     d.box("late", 790, 160, 200, 62, "code", ["queue, cells", "6, 8, 9, 10: counts with", "their waiting changes"])
-    d.box("write", 560, 262, 200, 62, "code", ["cells", "the first free cell", "gets both operands"])
-    d.box("append", 790, 262, 200, 62, "code", ["queue::append", "one packet more:", "kind 2, (1, 0, 2)"])
+    d.box("append", 560, 262, 200, 62, "code", ["calls", "one packet more:", "kind 2, (1, 0, 2)"])
+    d.box("write", 790, 262, 200, 62, "code", ["cells", "the first free cell", "gets both operands"])
     d.box("put", 20, 262, 190, 62, "text", ["line_text::put_line", "3 OK 2", "outputLine"])
-    d.box("verdict", 240, 262, 190, 62, "text", ["session_lines::after_row", "a reply to a verdict", "verdictOf"])
-    for a, b in [("parse", "serve"), ("serve", "store"), ("store", "calls"), ("early", "late"), ("write", "append")]:
+    d.box("verdict", 240, 262, 190, 62, "text", ["session_lines", "row_verdict", "verdictOf"])
+    for a, b in [("parse", "serve"), ("serve", "store"), ("store", "calls"), ("early", "late"), ("append", "write")]:
         x, y, w, h = d.boxes[a]
         u = d.boxes[b][0]
         d.line([(x + w, y + h / 2), (u - 2, y + h / 2)])
@@ -162,7 +162,7 @@ def call():
     d.text(20, 418, "A step", 15, "bold", "start")
     d.box("step", 20, 440, 170, 62, "face", ["store::step", "the public call", "Promise"])
     d.box("lent", 215, 440, 170, 62, "code", ["questions::lent", "1 and 2"])
-    d.box("take", 410, 440, 190, 62, "code", ["queue::take", "the oldest packet;", "none waiting: idle"])
+    d.box("take", 410, 440, 190, 62, "code", ["collector", "the oldest packet is taken;", "none waiting: idle"])
     d.box("apply", 625, 440, 190, 62, "code", ["collector, cells", "its count changes", "one by one"])
     d.box("stay", 840, 440, 200, 62, "code", ["marks::roots", "is the watched word", "still a root?"])
     d.box("mark", 625, 550, 190, 62, "code", ["marks::mark", "every reached cell,", "in the scratch"])
