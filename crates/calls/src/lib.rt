@@ -1,6 +1,6 @@
-// Fresh and the seven row calls, for any table, queue and numbers. A row call goes one way, whichever it is: its questions are asked, its packet joins
-// the queue, and it writes into the table only if no question says "no". The queue is copied twice on that way, into the queue that the packet joins and
-// into the reply, and a call that one of questions 1 to 5 refuses, which look at no packet, copies it into its reply alone.
+// Fresh and the seven row calls, for any table, queue and numbers. Every row call goes the same way: its questions are asked, its packet joins the queue,
+// and it writes into the table only if no question says "no". Questions 1 to 5 look at no packet, so a call that one of them refuses hands the queue back
+// as it came; the others are asked of the queue that the packet is to join, so that it is copied once for both.
 mod chain;
 mod early;
 mod late;
