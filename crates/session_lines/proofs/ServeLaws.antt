@@ -22,8 +22,14 @@ use Rattle.line_text.specs.declared.Request.{Request}
 use Rattle.line_text.specs.declared.Verdict
 use Rattle.line_text.specs.declared.Verdict.{Verdict}
 use Rattle.line_text.specs.Verdicts.{verdictOf}
-use Rattle.session_lines.specs.Listing.{called}
-use Rattle.session_lines.specs.Serving.{Good, Serves}
+use Rattle.session_lines.specs.Listing.{called, served}
+use Rattle.session_lines.specs.Serving.{Good}
+
+-- verdict and store are the listing's, and the store is good again
+pub record Serves (s : Store) (request : Request) (v : Verdict) (s′ : Store) : Type 0 where
+  pub verdict : v ≡ served s request .verdict
+  pub after : s′ ≡ served s request .after
+  pub good : Good (s′ .table) (s′ .queue)
 
 -- reply and store are the machine's, and the store is good again
 pub record Exact (s : Store) (call : Call) (r : Reply) (s′ : Store) : Type 0 where
