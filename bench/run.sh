@@ -64,6 +64,12 @@ full_queue_of_many() {
     awk 'BEGIN { for (i = 1; i <= 32; i++) print "up " i " 1" }'
     repeated "up 5 1/cons 7 9/car 30/down 18 1" "$lines"
 }
+# 64 packets wait, and nil is read: no packet is looked at.
+full_queue_of_nil_reads() {
+    echo "fresh 64"; echo "cons 0 0"
+    repeated "up 1 1" 63
+    repeated "car 0/cdr 0" "$lines"
+}
 # The stored session: many short sessions, lines that are no calls among them.
 stored() {
     while cat crates/session/stdin && echo; do :; done 2>/dev/null | head -n "$lines"
@@ -133,9 +139,11 @@ full_queue_of_one >"$work/in"
 measure "64 packets of one cell waiting, all refused" 64
 full_queue_of_many >"$work/in"
 measure "64 packets of 32 cells waiting, all refused" 64
+full_queue_of_nil_reads >"$work/in"
+measure "64 packets waiting, nil read" 64
 stored >"$work/in"
 measure "the stored session" "1 to 4,096"
-for line in "car 70" "step" "no call"; do
+for line in "car 70" "car 0" "step" "no call"; do
     same "$line" >"$work/in"
     measure "'$line' over and over" 64
 done

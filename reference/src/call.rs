@@ -5,6 +5,7 @@ use crate::collector::{self, Step};
 use crate::question::{self, Refusal};
 use crate::row;
 use crate::store::Store;
+use crate::table::NIL;
 
 /// Operands in document 01's order; the replaces have x, then y.
 #[derive(Clone, Copy, Debug, PartialEq, Eq)]
@@ -36,8 +37,8 @@ pub enum Reply {
 }
 
 impl Call {
-    /// Makes the call. On a store that fails the audit, a call other than
-    /// fresh and audit may do anything past question 5.
+    /// Makes the call. On a store that fails the audit, a call may do anything
+    /// past question 5, unless it is decided on any store.
     pub fn perform(self, store: &mut Store) -> Reply {
         self.attempt(store).unwrap_or_else(Reply::Refused)
     }
@@ -75,6 +76,16 @@ impl Call {
                 Verdict::Broken(rule) => Reply::Broken(rule),
             },
         })
+    }
+
+    /// Whether the call is decided on stores that fail the audit too: fresh,
+    /// the audit itself, and a read of nil, which looks at no cell (A1).
+    pub fn is_decided_on_any_store(self) -> bool {
+        matches!(self, Call::Fresh(_) | Call::Audit) || self.is_nil_read()
+    }
+
+    pub fn is_nil_read(self) -> bool {
+        matches!(self, Call::Car(NIL) | Call::Cdr(NIL))
     }
 
     /// Questions 1 to 5, without making the call.

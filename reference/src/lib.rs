@@ -1,6 +1,7 @@
 //! The reference machine of the row controller's cell store, written from
 //! document 01 alone: table, packet queue, row calls, collector step, audit,
-//! the session program, a runner for lists of stores, and generators.
+//! the session program, a runner for lists of stores, and generators. Document
+//! 01 is here what request A1 of document 02 makes of it.
 
 pub mod annotate;
 pub mod audit;

@@ -60,11 +60,13 @@ pub fn before_fresh(table: &[u16], cells: u16) -> Result<(), Refusal> {
     ask(table.len() >= length(cells), Refusal::Store)
 }
 
-/// Questions 1, 4 and 5 of car and cdr.
+/// Questions 1, 4 and 5 of car and cdr. Nil can be read (A1) and isn't asked 5.
 pub fn before_read(table: &[u16], queue: &Queue, x: u16) -> Result<u16, Refusal> {
     let cells = store(table, queue)?;
     word(x, cells)?;
-    cell(x, cells)?;
+    if x != NIL {
+        cell(x, cells)?;
+    }
     Ok(cells)
 }
 

@@ -29,6 +29,10 @@ pub fn cdr(table: &[u16], queue: &mut Queue, x: u16) -> Result<u16, Refusal> {
 
 fn read(table: &[u16], queue: &mut Queue, x: u16, side: usize) -> Result<u16, Refusal> {
     let cells = question::before_read(table, queue, x)?;
+    // The end of a list (A1): there is no cell to hold or to count.
+    if x == NIL {
+        return Ok(NIL);
+    }
     question::held(table, queue, x, 1)?;
     question::slot_empty(queue)?;
     let word = table[at(x) + side];

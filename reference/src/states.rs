@@ -54,6 +54,10 @@ impl Runner {
         }
     }
 
+    pub fn store(&self) -> &Store {
+        &self.store
+    }
+
     pub fn lend(&mut self, lent: Lent) -> Result<(), &'static str> {
         match lent {
             Lent::Table(table) => {
@@ -86,7 +90,7 @@ impl Runner {
     /// Whether document 01 leaves open what this call gives.
     fn is_undecided(&mut self, call: Call) -> bool {
         let Store { table, queue, .. } = &self.store;
-        !matches!(call, Call::Fresh(_) | Call::Audit)
+        !call.is_decided_on_any_store()
             && call.first_questions(&self.store).is_ok()
             && audit::audit(table, queue, &mut self.work) != Ok(Verdict::Sound)
     }

@@ -1,9 +1,12 @@
 //! Calls on any table, queue and scratch: each ends, leaves the words past the
-//! cells alone, and changes nothing where it refuses.
+//! cells alone, and changes nothing where it refuses. A read of nil is decided.
+
+mod slow;
 
 use reference::call::{Call, Reply};
 use reference::generate::rng::Rng;
 use reference::generate::sound::any_call;
+use reference::question::Refusal;
 use reference::queue::Queue;
 use reference::store::Store;
 use reference::table::length;
@@ -64,4 +67,31 @@ fn calls_end_on_any_store() {
         };
         assert_eq!(store.scratch[rest..], before.scratch[rest..], "{call:?}");
     }
+}
+
+/// Question 1 alone decides a read of nil, whatever else is wrong.
+#[test]
+fn nil_reads_are_decided_on_any_store() {
+    let mut rng = Rng::new(2);
+    let (mut damaged, mut damaged_and_full, mut refused) = (0, 0, 0);
+    for _ in 0..50_000 {
+        let before = any_store(&mut rng);
+        for call in [Call::Car(0), Call::Cdr(0)] {
+            let (mut fast, mut plain) = (before.clone(), before.clone());
+            let reply = call.perform(&mut fast);
+            assert_eq!(reply, slow::perform(&mut plain, call), "{before:?}");
+            assert_eq!((&fast, &plain), (&before, &before), "{call:?}");
+            if reply == Reply::Refused(Refusal::Store) {
+                refused += 1;
+                continue;
+            }
+            assert_eq!(reply, Reply::Done(0), "{before:?}");
+            if slow::audit(&before).is_some() {
+                damaged += 1;
+                damaged_and_full += usize::from(before.queue.count == 64);
+            }
+        }
+    }
+    let least = damaged.min(refused).min(10 * damaged_and_full);
+    assert!(least > 1_000, "{damaged} {damaged_and_full} {refused}");
 }

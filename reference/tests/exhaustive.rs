@@ -24,7 +24,7 @@ fn all_calls() -> Vec<Call> {
 }
 
 /// Goes through all lists of up to `depth` more calls; a refused or idle call
-/// changes nothing and so leads to no new store.
+/// and a read of nil change nothing and so lead to no new store.
 fn explore(store: &Store, made: &mut Vec<(Call, Reply)>, depth: usize) -> usize {
     let mut tried = 0;
     for call in all_calls() {
@@ -35,6 +35,7 @@ fn explore(store: &Store, made: &mut Vec<(Call, Reply)>, depth: usize) -> usize 
         tried += 1;
         if matches!(reply, Reply::Refused(_) | Reply::Idle) {
             assert_eq!(fast, *store);
+            assert!(!matches!(call, Call::Car(0) | Call::Cdr(0)), "{made:?}");
             continue;
         }
         made.push((call, reply));
@@ -43,7 +44,9 @@ fn explore(store: &Store, made: &mut Vec<(Call, Reply)>, depth: usize) -> usize 
             holds.note(call, reply);
         }
         slow::check_facts(&fast, &holds).unwrap_or_else(|broken| panic!("{broken}: {made:?}"));
-        if depth > 1 {
+        if matches!(call, Call::Car(0) | Call::Cdr(0)) {
+            assert_eq!((reply, &fast), (Reply::Done(0), store), "{made:?}");
+        } else if depth > 1 {
             tried += explore(&fast, made, depth - 1);
         }
         made.pop();

@@ -1,6 +1,8 @@
-//! The cases K1 to K11 of document 01, through the session program.
+//! The cases K1 to K11 of document 01 and reads of nil, through the session
+//! program.
 
-use reference::call::Call;
+use reference::call::{Call, Reply};
+use reference::question::Refusal;
 use reference::session;
 use reference::store::Store;
 use reference::table::length;
@@ -58,7 +60,7 @@ fn k2_k3_up_to_the_ceiling() {
 }
 
 #[test]
-fn k4_to_k9_and_k11_refusals() {
+fn k4_to_k9_refusals() {
     for (call, reply) in [
         ("up 1 0", "NO 3"),
         ("setr 1 1", "NO 6"),
@@ -66,10 +68,79 @@ fn k4_to_k9_and_k11_refusals() {
         ("cons 3 0", "NO 6"),
         ("cons 4 0", "NO 4"),
         ("car 32775", "NO 5"),
-        ("car 0", "NO 5"),
     ] {
         assert_eq!(after_cons(&[call]), [reply], "{call}");
     }
+}
+
+#[test]
+fn k11_nil_is_read() {
+    assert_eq!(after_cons(&["car 0"]), ["OK 0"]);
+    assert_eq!(after_cons(&["cdr 0"]), ["OK 0"]);
+}
+
+/// Only nil is read without a hold; the other words are refused as before.
+#[test]
+fn reads_of_other_words_are_refused_as_before() {
+    for (word, reply) in [
+        (2, "NO 6"),
+        (3, "NO 6"),
+        (4, "NO 4"),
+        (32_767, "NO 4"),
+        (32_768, "NO 5"),
+        (65_535, "NO 5"),
+    ] {
+        for name in ["car", "cdr"] {
+            let call = format!("{name} {word}");
+            assert_eq!(after_cons(&[&call]), [reply], "{call}");
+        }
+    }
+}
+
+#[test]
+fn nil_read_before_a_fresh() {
+    assert_eq!(replies("car 0\ncdr 0\n"), ["1 NO 1", "2 NO 1"]);
+}
+
+#[test]
+fn nil_read_with_no_cell_in_use() {
+    let expected = ["1 OK 0", "2 OK 0", "3 OK 0", "4 IDLE"];
+    assert_eq!(replies("fresh 3\ncar 0\ncdr 0\nstep\n"), expected);
+}
+
+/// A list of three is walked to its end and past it; each step of the walk
+/// gives up the hold of the cell before, and the reads past the end queue
+/// nothing.
+#[test]
+fn list_walked_past_its_end() {
+    let input = "fresh 3\ncons 32769 0\ncons 32770 1\ncons 32771 2\n\
+                 cdr 3\ncdr 2\ncdr 1\ncdr 0\ncar 0\n\
+                 step\nstep\nstep\nstep\nstep\nstep\nstep\ncdr 0\n";
+    let expected = [
+        "1 OK 0", "2 OK 1", "3 OK 2", "4 OK 3", "5 OK 2", "6 OK 1", "7 OK 0", "8 OK 0", "9 OK 0",
+        "10 OK 0", "11 OK 0", "12 OK 0", "13 OK 1", "14 OK 1", "15 OK 1", "16 IDLE", "17 OK 0",
+    ];
+    assert_eq!(replies(input), expected);
+}
+
+/// A read of nil takes no slot and no hold, and needs neither.
+#[test]
+fn nil_read_changes_nothing_on_a_full_queue() {
+    let mut store = Store::zeroed(length(1), 1);
+    store.scratch.fill(5);
+    Call::Fresh(1).perform(&mut store);
+    Call::Cons(0, 0).perform(&mut store);
+    for _ in 1..64 {
+        Call::Up(1, 1).perform(&mut store);
+    }
+    assert_eq!(store.queue.count, 64);
+    let before = store.clone();
+    for call in [Call::Car(0), Call::Cdr(0)] {
+        assert_eq!(call.perform(&mut store), Reply::Done(0), "{call:?}");
+        assert_eq!(store, before, "{call:?}");
+    }
+    let full = Reply::Refused(Refusal::QueueFull);
+    assert_eq!(Call::Car(1).perform(&mut store), full);
 }
 
 #[test]
@@ -83,7 +154,7 @@ fn k10_read_then_freed() {
 fn full_queue_before_no_free_cell() {
     let mut store = Store::zeroed(length(1), 1);
     let mut refused = |call: Call| match call.perform(&mut store) {
-        reference::call::Reply::Refused(refusal) => refusal as u8,
+        Reply::Refused(refusal) => refusal as u8,
         _ => 0,
     };
     assert_eq!(refused(Call::Fresh(1)), 0);

@@ -8,10 +8,12 @@ use std::path::Path;
 
 use reference::annotate::{self, Codes};
 use reference::call::{Call, Reply};
+use reference::format::{Line, Reader};
 use reference::generate::rng::Rng;
 use reference::generate::{write_list, LISTS};
+use reference::question::Refusal;
 use reference::queue::Queue;
-use reference::states;
+use reference::states::{self, Runner};
 use reference::store::Store;
 
 fn list(name: &str, seed: u64, cases: usize) -> String {
@@ -115,8 +117,10 @@ fn call(code: usize, p: u16, q: u16) -> Call {
 }
 
 fn is_undecided(store: &Store, call: Call) -> bool {
-    !matches!(call, Call::Fresh(_) | Call::Audit)
-        && slow::first_questions(store, call).is_ok()
+    !matches!(
+        call,
+        Call::Fresh(_) | Call::Audit | Call::Car(0) | Call::Cdr(0)
+    ) && slow::first_questions(store, call).is_ok()
         && slow::audit(store).is_some()
 }
 
@@ -258,6 +262,8 @@ fn malformed_lists_are_errors() {
         "U 9 0 0",
         "T 8 1 8 0\nU 0 1 0",
         "T 8 2 3 1 5 0\nU 3 0 0",
+        "T 8 2 3 1 5 2\nU 1 0 0",
+        "T 8 2 3 1 5 2\nU 2 0 0",
     ] {
         assert!(states::run(list.as_bytes(), Vec::new()).is_err(), "{list}");
     }
@@ -315,6 +321,27 @@ fn annotation_goes_by_the_calls_kept() {
     assert_eq!(fast_output(all), "U 8 0 0 UNDECIDED\nU 0 1 0 UNDECIDED\n");
 }
 
+/// A read of nil is decided on a store that passes question 1 and fails the
+/// audit, until an undecided call makes the store itself unknown.
+#[test]
+fn nil_reads_are_decided_on_damaged_stores() {
+    let store = "T 8 2 3 1 5 2\nS 1 1 1 0\n";
+    let calls = "C 1 0 0\nC 2 0 0\nC 8 0 0\nC 1 0 0\n";
+    let marked = format!("{store}C 1 0 0\nC 2 0 0\nU 8 0 0\nU 1 0 0\n");
+    let list = format!("{store}{calls}");
+    assert_eq!(annotated(&list, "0-9"), marked);
+    let unchanged = "T 8 2 3 1 5 2\nQ 0 0 0\nS 1 1 1 0\n";
+    let expected = format!(
+        "C 1 0 0 OK 0\n{unchanged}C 2 0 0 OK 0\n{unchanged}\
+         U 8 0 0 UNDECIDED\nU 1 0 0 UNDECIDED\n"
+    );
+    assert_eq!(fast_output(&marked), expected);
+    assert_same("reads of nil", &list);
+    let unfit = "T 7 2 3 1 4 2\nC 1 0 0\n";
+    let refused = "C 1 0 0 NO 1\nT 7 2 3 1 4 2\nQ 0 0 0\nS 0 0\n";
+    assert_eq!(fast_output(unfit), refused);
+}
+
 #[test]
 fn annotated_lines_are_canonical() {
     let list = "# title\n T  8 2 1 1\n7 00\nQ 0 0 0\n\nW 007 0 C 1 2\n 5";
@@ -359,6 +386,71 @@ fn fast_and_slow_agree_on_the_gate_lists() {
     }
 }
 
+/// The decided reads of nil of a list, by the stores that they meet.
+#[derive(Debug, Default)]
+struct NilReads {
+    sound: usize,
+    /// On stores that fail the audit.
+    damaged: usize,
+    /// On stores that fail question 1.
+    unfit: usize,
+    /// Those of the sound and the damaged stores whose queue is full.
+    full: usize,
+}
+
+fn nil_reads(list: &str) -> NilReads {
+    let mut reads = NilReads::default();
+    let mut reader = Reader::new(list.as_bytes());
+    let mut runner = Runner::new();
+    while let Some(line) = reader.line().unwrap() {
+        match line {
+            Line::Title => {}
+            Line::Lent(lent) => runner.lend(lent).unwrap(),
+            Line::Call(call @ (Call::Car(0) | Call::Cdr(0)), sort) => {
+                let before = runner.store().clone();
+                if let Some(reply) = runner.call(call, sort).unwrap() {
+                    assert_eq!(*runner.store(), before, "{call:?}");
+                    note_nil_read(&mut reads, before, reply);
+                }
+            }
+            Line::Call(call, sort) => {
+                runner.call(call, sort).unwrap();
+            }
+        }
+    }
+    reads
+}
+
+fn note_nil_read(reads: &mut NilReads, mut store: Store, reply: Reply) {
+    store.scratch = vec![0; 4_096];
+    match (reply, Call::Audit.perform(&mut store)) {
+        (Reply::Refused(Refusal::Store), Reply::Refused(Refusal::Store)) => {
+            reads.unfit += 1;
+            return;
+        }
+        (Reply::Done(0), Reply::Sound) => reads.sound += 1,
+        (Reply::Done(0), Reply::Broken(_)) => reads.damaged += 1,
+        other => panic!("{other:?}"),
+    }
+    reads.full += usize::from(store.queue.count == 64);
+}
+
+#[test]
+fn lists_read_nil_on_damaged_stores() {
+    for name in ["s1", "s2", "s3", "s4", "s5", "mutants", "garbage", "wrecks"] {
+        let reads = nil_reads(&list(name, 1, 40));
+        assert!(reads.damaged >= 10, "{name}: {reads:?}");
+    }
+    let reads = nil_reads(&list("question1", 1, 0));
+    assert!(reads.unfit >= 10 && reads.damaged >= 10, "{reads:?}");
+}
+
+#[test]
+fn rows_read_nil_with_full_queues() {
+    let reads = nil_reads(&list("rows", 1, 128));
+    assert!(reads.full >= 10, "{reads:?}");
+}
+
 /// How often each reply stands in an output.
 fn count(output: &str, reply: &str) -> usize {
     let is_it = |line: &&str| line.starts_with(['C', 'B']) && line.ends_with(reply);
@@ -381,6 +473,10 @@ fn gate_lists_have_what_they_are_for() {
             let times = count(&output, &format!(" NO {question}"));
             assert!(times >= 10, "{name}: NO {question} {times} times");
         }
+        let reads = nil_reads(&list);
+        println!("{name}: {reads:?}");
+        let least = reads.damaged.min(reads.unfit).min(reads.full);
+        assert!(least >= 10 && reads.sound >= 10, "{name}: {reads:?}");
         assert_eq!(count(&output, " UNDECIDED"), 0, "{name}");
         assert!(output.lines().any(|line| line.ends_with(" UNDECIDED")));
         for cells in [1, 2, 3, 63, 64, 65, 4_096] {

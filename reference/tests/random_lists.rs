@@ -19,6 +19,7 @@ fn calls_or(default: usize) -> usize {
 fn random_mix(rng: &mut Rng) -> Mix {
     let mut weight = || 1 + rng.below(40);
     Mix {
+        nil_read: [0, 2, 5, 40][weight() % 4],
         read: weight(),
         cons: weight(),
         replace: weight(),
@@ -73,11 +74,17 @@ fn any_scratch(rng: &mut Rng, cells: u16) -> Vec<u16> {
     (0..length).map(|_| rng.word()).collect()
 }
 
+/// How many calls were accepted (0), refused by each question (1 to 10), idle
+/// (11), and reads of nil with a slot empty (12) and with a full queue (13).
+type Replies = [usize; 14];
+const NIL_READ: usize = 12;
+const NIL_READ_WHEN_FULL: usize = 13;
+
 struct List {
     follower: Follower,
     holds: slow::Holds,
     mix: Mix,
-    replies: [usize; 12],
+    replies: Replies,
 }
 
 impl List {
@@ -94,7 +101,7 @@ impl List {
             follower: Follower::new(store),
             holds: slow::Holds::default(),
             mix: random_mix(rng),
-            replies: [0; 12],
+            replies: Replies::default(),
         }
     }
 
@@ -113,7 +120,11 @@ impl List {
         let expected_reply = slow::perform(&mut expected, call);
         assert_eq!(reply, expected_reply, "{call:?} on {before:?}");
         assert_eq!(*after, expected, "{call:?} on {before:?}");
-        if matches!(reply, Reply::Refused(_) | Reply::Idle) {
+        let is_nil_read = matches!(call, Call::Car(0) | Call::Cdr(0));
+        if is_nil_read {
+            assert_eq!(reply, Reply::Done(0), "{call:?} on {before:?}");
+        }
+        if is_nil_read || matches!(reply, Reply::Refused(_) | Reply::Idle) {
             assert_eq!(*after, before, "{call:?}");
         }
         self.holds.note(call, reply);
@@ -125,6 +136,8 @@ impl List {
         self.replies[match reply {
             Reply::Refused(refusal) => refusal as usize,
             Reply::Idle => 11,
+            _ if is_nil_read && before.queue.count == 64 => NIL_READ_WHEN_FULL,
+            _ if is_nil_read => NIL_READ,
             _ => 0,
         }] += 1;
     }
@@ -148,9 +161,9 @@ impl List {
 
 /// Lists of up to `length` calls, `calls` in all, on stores of up to
 /// `max_cells` cells.
-fn run_lists(seed: u64, max_cells: u16, length: usize, calls: usize) -> [usize; 12] {
+fn run_lists(seed: u64, max_cells: u16, length: usize, calls: usize) -> Replies {
     let mut rng = Rng::new(seed);
-    let mut replies = [0; 12];
+    let mut replies = Replies::default();
     let mut made = 0;
     while made < calls {
         let extra = rng.below(7);
@@ -172,9 +185,14 @@ fn run_lists(seed: u64, max_cells: u16, length: usize, calls: usize) -> [usize; 
     replies
 }
 
+fn assert_nil_was_read(replies: Replies) {
+    assert!(replies[NIL_READ] > 100, "{replies:?}");
+    assert!(replies[NIL_READ_WHEN_FULL] > 0, "{replies:?}");
+}
+
 #[test]
 fn tiny_stores() {
-    run_lists(1, 3, 200, 20_000);
+    assert_nil_was_read(run_lists(1, 3, 200, 20_000));
 }
 
 #[test]
@@ -183,11 +201,37 @@ fn small_stores() {
     for question in [1, 2, 3, 4, 5, 6, 7, 8, 9] {
         assert!(replies[question] > 0, "no refusal {question}");
     }
+    assert_nil_was_read(replies);
 }
 
 #[test]
 fn middle_stores() {
-    run_lists(3, 70, 1_500, 9_000);
+    assert_nil_was_read(run_lists(3, 70, 1_500, 9_000));
+}
+
+/// What the generators take for a call to be refused is refused by the very
+/// question; a read of nil isn't among those of question 5.
+#[test]
+fn chosen_refusals_are_refused() {
+    let mut rng = Rng::new(7);
+    for _ in 0..200 {
+        let cells = rng.within(1, 9);
+        let mut follower = Follower::fresh(cells);
+        let mix = random_mix(&mut rng);
+        for _ in 0..100 {
+            let call = follower.lively_call(&mut rng, mix);
+            follower.perform(call);
+            let question = 3 + rng.below(7);
+            if let Some(call) = follower.refused_call(&mut rng, question) {
+                let reply = follower.perform(call);
+                let by = match reply {
+                    Reply::Refused(refusal) => refusal as usize,
+                    _ => 0,
+                };
+                assert_eq!(by, question, "{call:?} on {:?}", follower.store);
+            }
+        }
+    }
 }
 
 #[test]
@@ -195,13 +239,16 @@ fn middle_stores() {
 fn millions_of_calls() {
     let calls = calls_or(3_000_000);
     let seed = std::env::var("SEED").map_or(4, |text| text.parse().unwrap());
-    let mut total = [0; 12];
+    let mut total = Replies::default();
     for (i, (cells, length, share)) in [(3, 300, 4), (6, 300, 4), (16, 1_000, 6), (66, 2_000, 10)]
         .into_iter()
         .enumerate()
     {
         let replies = run_lists(seed + i as u64, cells, length, calls / share);
-        println!("up to {cells} cells: accepted, refused 1 to 10, idle: {replies:?}");
+        println!(
+            "up to {cells} cells: accepted, refused 1 to 10, idle, nil read, nil read \
+             with a full queue: {replies:?}"
+        );
         for (sum, number) in total.iter_mut().zip(replies) {
             *sum += number;
         }
@@ -276,7 +323,7 @@ fn pointer_ceiling() {
         Call::Audit,
     ];
     for _ in 0..2 {
-        list.replies = [0; 12];
+        list.replies = Replies::default();
         for call in around {
             list.call(&mut rng, call);
         }

@@ -3,9 +3,14 @@
 
 mod slow;
 
-use reference::call::Reply;
+use std::fs;
+use std::path::Path;
+
+use reference::call::{Call, Reply};
 use reference::generate::rng::Rng;
 use reference::generate::session::{write, STYLES};
+use reference::question::Refusal;
+use reference::queue::Queue;
 use reference::session;
 use reference::store::Store;
 use reference::table::{length, MAX_CELLS};
@@ -71,4 +76,74 @@ fn sessions_reach_the_refusals() {
         assert!(outputs.contains(&reply), "no refusal {question}");
     }
     assert!(outputs.contains(" BAD\n") && outputs.contains(" IDLE\n"));
+}
+
+/// A read of nil, its reply and how many packets waited.
+type NilRead = (Call, Reply, usize);
+
+fn nil_reads(input: &[u8]) -> Vec<NilRead> {
+    let mut store = Store::zeroed(length(MAX_CELLS), MAX_CELLS as usize);
+    let mut reads = Vec::new();
+    for call in input
+        .split(|&byte| byte == b'\n')
+        .filter_map(session::parse)
+    {
+        let reply = call.perform(&mut store);
+        if matches!(call, Call::Car(0) | Call::Cdr(0)) {
+            reads.push((call, reply, store.queue.count as usize));
+        }
+    }
+    reads
+}
+
+const NIL_READS: [Call; 2] = [Call::Car(0), Call::Cdr(0)];
+
+fn times(reads: &[NilRead], read: NilRead) -> usize {
+    reads.iter().filter(|&&other| other == read).count()
+}
+
+#[test]
+fn full_sessions_read_nil_with_full_queues() {
+    let reads = nil_reads(&session("full", 4, 65, 2_000));
+    for call in NIL_READS {
+        let times = times(&reads, (call, Reply::Done(0), Queue::SLOTS));
+        assert!(times >= 5, "{call:?}: {times} times");
+    }
+}
+
+#[test]
+fn sessions_read_nil_before_a_fresh() {
+    for style in STYLES.into_iter().filter(|&style| style != "ceiling") {
+        let reads = nil_reads(&session(style, 5, 2, 0));
+        for call in NIL_READS {
+            let read = (call, Reply::Refused(Refusal::Store), 0);
+            assert_eq!(times(&reads, read), 1, "{style} {call:?}");
+        }
+    }
+}
+
+/// The session program's matched input is many sessions joined, so only its
+/// first lines stand before a fresh.
+#[test]
+fn joined_sessions_read_nil() {
+    let root = Path::new(env!("CARGO_MANIFEST_DIR")).parent().unwrap();
+    let reads = nil_reads(&fs::read(root.join("crates/session/stdin")).unwrap());
+    for call in NIL_READS {
+        for read in [
+            (call, Reply::Refused(Refusal::Store), 0),
+            (call, Reply::Done(0), 0),
+            (call, Reply::Done(0), 1),
+            (call, Reply::Done(0), Queue::SLOTS),
+        ] {
+            assert!(times(&reads, read) > 0, "{read:?}");
+        }
+    }
+    let by_reply = |reply| reads.iter().filter(|read| read.1 == reply).count();
+    let refused = by_reply(Reply::Refused(Refusal::Store));
+    assert_eq!(refused + by_reply(Reply::Done(0)), reads.len());
+    let full = reads.iter().filter(|read| read.2 == Queue::SLOTS).count();
+    println!(
+        "reads of nil: {}, refused {refused}, with a full queue {full}",
+        reads.len()
+    );
 }

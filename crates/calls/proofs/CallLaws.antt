@@ -1,6 +1,6 @@
 -- The questions of a whole row call, the early ones and then the late ones, and what a "yes" to them leaves: no code here.
 use mathlib.Core.Path.{_≡_, refl, sym, ap, subst, _∙_}
-use mathlib.Core.Bool.{Bool, true, false, not, _&&_}
+use mathlib.Core.Bool.{Bool, true, false, cond, not, _&&_}
 use mathlib.Core.List.{List, [], _∷_, _++_}
 use Prim.Native.Nat.{ℕ, zero, suc, _-_, _≤_}
 use native.Mathlib.Omega.{arith}
@@ -15,16 +15,17 @@ use Rattle.machine.specs.Table.{capacity, firstFree}
 use Rattle.machine.specs.Queue.{Packet, waiting}
 use Rattle.machine.specs.Packets.{root, cell, kindOf}
 use Rattle.machine.specs.Facts.{Shape}
-use Rattle.machine.specs.Calls.{RowCall, car, cdr, cons, setLeft, setRight, up, down, row, store, packetOf}
-use Rattle.machine.specs.Questions.{Question, ask, firstNo, refusedBy, inRange, numberInRange, wordsLegal, xIsCell, heldEnough, slotEmpty, earlyRow, early}
+use Rattle.machine.specs.Calls.{RowCall, car, cdr, cons, setLeft, setRight, up, down, row, store, packetOf, readsNil}
+use Rattle.machine.specs.Questions.{Question, ask, firstNo, refusedBy, inRange, numberInRange, wordsLegal, xIsCell, heldEnough, slotEmpty, askRead, earlyRow, early}
 use Rattle.machine.specs.Answers.{askedNumber, callOf}
 use Rattle.machine.proofs.Range.{and-first}
 use Rattle.machine.proofs.Lists.{and-true}
+use Rattle.machine.proofs.NilReads.{read-cell}
 use Rattle.machine.proofs.Questions.{Numbered, AllYes, firstNo-append, firstNo-none, firstNo-all, early-numbered, shape-is}
 use Rattle.calls.specs.Early.{wordsNumber, firstOf, cellNumber}
 use Rattle.calls.specs.Packets.{Operands}
 use Rattle.calls.specs.Writes.{Writable}
-use Rattle.calls.specs.Tests.{raisedWithin, freeByEnd, codeLate, codeQuestions}
+use Rattle.calls.specs.Tests.{raisedWithin, freeByEnd, codeLate, codeLateRow, codeQuestions}
 use Rattle.calls.specs.Called.{EarlyYes}
 use Rattle.calls.proofs.PacketLaws.{cell-inside}
 
@@ -36,10 +37,10 @@ first-append ks ls h = go (firstNo ks) refl
     go zero e = firstNo-none ks ls h e ∙ sym (ap (λ (a : ℕ). firstOf a (firstNo ls)) e)
     go (suc n) e = firstNo-append ks ls n e ∙ sym (ap (λ (a : ℕ). firstOf a (firstNo ls)) e)
 
-pub questions-split : (t : List ℕ) (q : Queue) (r : RowCall)
+pub questions-split : (t : List ℕ) (q : Queue) (r : RowCall) → readsNil r ≡ false
     → firstNo (codeQuestions t q r) ≡ firstOf (firstNo (early (store t q []) (row r))) (firstNo (codeLate t q (packetOf t r)))
-unfolding codeQuestions
-questions-split t q r = first-append (early (store t q []) (row r)) (codeLate t q (packetOf t r)) (early-numbered (store t q []) (row r))
+unfolding codeQuestions codeLateRow
+questions-split t q r n = rw n (first-append (early (store t q []) (row r)) (codeLate t q (packetOf t r)) (early-numbered (store t q []) (row r)))
 
 first-both : (a b : ℕ) → firstOf a b ≡ 0 → (a ≡ 0) × (b ≡ 0)
 first-both zero b h = (refl, h)
@@ -80,22 +81,30 @@ earlyNumber t q (up x n) = cellNumber t q n x 0
 earlyNumber t q (down x n) = cellNumber t q n x 0
 
 module _ (t : List ℕ) (q : Queue) where
-  pub early-number : (r : RowCall) → earlyNumber t q r ≡ firstNo (early (store t q []) (row r))
-  unfolding firstNo early earlyRow wordsLegal xIsCell everyOf cellNumber wordsNumber numberInRange isLegal isNil
-  early-number (car x) = sym (one-cell (inRange t q) (isLegal (capacity t) x && true) (isCell (capacity t) x))
-  early-number (cdr x) = sym (one-cell (inRange t q) (isLegal (capacity t) x && true) (isCell (capacity t) x))
-  early-number (cons x y) = rw (and-true (isLegal (capacity t) y))
-  early-number (setLeft x y) =
+  read-number : (x : ℕ) → isNil x ≡ false → cellNumber t q 1 x 0 ≡ firstNo (ask 1 (inRange t q) ∷ ask 4 (wordsLegal t (x ∷ [])) ∷ askRead t x)
+  unfolding firstNo wordsLegal xIsCell everyOf cellNumber wordsNumber numberInRange isLegal isNil
+  read-number x n =
+      sym (one-cell (inRange t q) (isLegal (capacity t) x && true) (isCell (capacity t) x))
+      ∙ ap (λ (b : Bool). firstNo (ask 1 (inRange t q) ∷ ask 4 (wordsLegal t (x ∷ [])) ∷ cond b [] (ask 5 (xIsCell t x) ∷ []))) (sym n)
+
+  pub early-number : (r : RowCall) → readsNil r ≡ false → earlyNumber t q r ≡ firstNo (early (store t q []) (row r))
+  unfolding firstNo early earlyRow wordsLegal xIsCell everyOf readsNil cellNumber wordsNumber numberInRange isLegal isNil
+  early-number (car x) n = read-number x n
+  early-number (cdr x) n = read-number x n
+  early-number (cons x y) n = rw (and-true (isLegal (capacity t) y))
+  early-number (setLeft x y) n =
       rw (and-true (isLegal (capacity t) y)) (sym (one-cell (inRange t q) (isLegal (capacity t) x && isLegal (capacity t) y) (isCell (capacity t) x)))
-  early-number (setRight x y) =
+  early-number (setRight x y) n =
       rw (and-true (isLegal (capacity t) y)) (sym (one-cell (inRange t q) (isLegal (capacity t) x && isLegal (capacity t) y) (isCell (capacity t) x)))
-  early-number (up x n) = sym (number-cell (inRange t q) (numberInRange n) (isLegal (capacity t) x && true) (isCell (capacity t) x))
-  early-number (down x n) = sym (number-cell (inRange t q) (numberInRange n) (isLegal (capacity t) x && true) (isCell (capacity t) x))
+  early-number (up x m) n = sym (number-cell (inRange t q) (numberInRange m) (isLegal (capacity t) x && true) (isCell (capacity t) x))
+  early-number (down x m) n = sym (number-cell (inRange t q) (numberInRange m) (isLegal (capacity t) x && true) (isCell (capacity t) x))
 
   -- of the call as the code's enum has it, once its variant is known
-  pub early-of : (asked : Asked) (call r : declared.RowCall) → call ≡ r → askedNumber asked ≡ earlyNumber t q (callOf r)
+  pub early-of : (asked : Asked) (call r : declared.RowCall) → readsNil (callOf call) ≡ false → call ≡ r → askedNumber asked ≡ earlyNumber t q (callOf r)
       → askedNumber asked ≡ firstNo (early (store t q []) (row (callOf call)))
-  early-of asked call r e h = h ∙ early-number (callOf r) ∙ ap (λ (s : declared.RowCall). firstNo (early (store t q []) (row (callOf s)))) (sym e)
+  early-of asked call r n e h =
+      h ∙ early-number (callOf r) (subst (λ (s : declared.RowCall). readsNil (callOf s) ≡ false) e n)
+      ∙ ap (λ (s : declared.RowCall). firstNo (early (store t q []) (row (callOf s)))) (sym e)
 
   all-early : (r : RowCall) → firstNo (early (store t q []) (row r)) ≡ 0 → AllYes (early (store t q []) (row r))
   all-early r h = firstNo-all (early (store t q []) (row r)) (early-numbered (store t q []) (row r)) h
@@ -104,18 +113,18 @@ module _ (t : List ℕ) (q : Queue) where
   unfolding early
   early-shape r h = shape-is t q (all-early r h .0)
 
-  pub early-operands : (r : RowCall) → firstNo (early (store t q []) (row r)) ≡ 0 → Operands t (packetOf t r)
-  unfolding early earlyRow xIsCell packetOf kindOf
-  early-operands (car x) h = all-early (car x) h .1 .1 .0
-  early-operands (cdr x) h = all-early (cdr x) h .1 .1 .0
-  early-operands (cons x y) h = tt
-  early-operands (setLeft x y) h = all-early (setLeft x y) h .1 .1 .0
-  early-operands (setRight x y) h = all-early (setRight x y) h .1 .1 .0
-  early-operands (up x n) h = all-early (up x n) h .1 .1 .1 .0
-  early-operands (down x n) h = let a = all-early (down x n) h in (a .1 .1 .1 .0, number-some n (a .1 .0))
+  pub early-operands : (r : RowCall) → readsNil r ≡ false → firstNo (early (store t q []) (row r)) ≡ 0 → Operands t (packetOf t r)
+  unfolding early earlyRow readsNil xIsCell packetOf kindOf
+  early-operands (car x) e h = read-cell t x e (all-early (car x) h .1 .1)
+  early-operands (cdr x) e h = read-cell t x e (all-early (cdr x) h .1 .1)
+  early-operands (cons x y) e h = tt
+  early-operands (setLeft x y) e h = all-early (setLeft x y) h .1 .1 .0
+  early-operands (setRight x y) e h = all-early (setRight x y) h .1 .1 .0
+  early-operands (up x n) e h = all-early (up x n) h .1 .1 .1 .0
+  early-operands (down x n) e h = let a = all-early (down x n) h in (a .1 .1 .1 .0, number-some n (a .1 .0))
 
   pub passed-operands : (r : RowCall) (p : Packet) → EarlyYes t q r p → Operands t p
-  passed-operands r p y = subst (Operands t) (sym (y .packet)) (early-operands r (y .early))
+  passed-operands r p y = subst (Operands t) (sym (y .packet)) (early-operands r (y .queues) (y .early))
 
   late-free : (x y : ℕ) → firstNo (codeLate t q (packetOf t (cons x y))) ≡ 0 → firstFree t ≡ 0 → ⊥
   unfolding codeLate firstNo freeByEnd kindOf packetOf
@@ -126,22 +135,23 @@ module _ (t : List ℕ) (q : Queue) where
       (third-yes (heldEnough t (waiting q) p) (slotEmpty q) (not (eqb (firstFree t) 0))
       (firstNo (ask 9 (raisedWithin root t (waiting q) p) ∷ ask 10 (raisedWithin cell t (waiting q) p) ∷ [])) e))
 
+  both : (r : RowCall) → readsNil r ≡ false → firstNo (codeQuestions t q r) ≡ 0
+      → (firstNo (early (store t q []) (row r)) ≡ 0) × (firstNo (codeLate t q (packetOf t r)) ≡ 0)
+  both r n h = first-both (firstNo (early (store t q []) (row r))) (firstNo (codeLate t q (packetOf t r))) (sym (questions-split t q r n) ∙ h)
+
   -- the cell that an accepted call writes is one of the table's
   pub writable : (r : RowCall) → firstNo (codeQuestions t q r) ≡ 0 → Writable t r
-  unfolding packetOf kindOf
-  writable r h = go r (both .0) (both .1)
-    where
-      both : (firstNo (early (store t q []) (row r)) ≡ 0) × (firstNo (codeLate t q (packetOf t r)) ≡ 0)
-      both = first-both (firstNo (early (store t q []) (row r))) (firstNo (codeLate t q (packetOf t r))) (sym (questions-split t q r) ∙ h)
-
-      go : (s : RowCall) → firstNo (early (store t q []) (row s)) ≡ 0 → firstNo (codeLate t q (packetOf t s)) ≡ 0 → Writable t s
-      go (car x) a b = tt
-      go (cdr x) a b = tt
-      go (cons x y) a b =
-          let shape = early-shape (cons x y) a .table in
-          let d = late-free x y b in
-          record { some = omega arith; room = omega arith }
-      go (setLeft x y) a b = cell-inside t x (early-shape (setLeft x y) a .table) (early-operands (setLeft x y) a)
-      go (setRight x y) a b = cell-inside t x (early-shape (setRight x y) a .table) (early-operands (setRight x y) a)
-      go (up x n) a b = tt
-      go (down x n) a b = tt
+  unfolding readsNil packetOf kindOf
+  writable (car x) h = tt
+  writable (cdr x) h = tt
+  writable (cons x y) h =
+      let b = both (cons x y) refl h in
+      let shape = early-shape (cons x y) (b .0) .table in
+      let d = late-free x y (b .1) in
+      record { some = omega arith; room = omega arith }
+  writable (setLeft x y) h =
+      let a = both (setLeft x y) refl h .0 in cell-inside t x (early-shape (setLeft x y) a .table) (early-operands (setLeft x y) refl a)
+  writable (setRight x y) h =
+      let a = both (setRight x y) refl h .0 in cell-inside t x (early-shape (setRight x y) a .table) (early-operands (setRight x y) refl a)
+  writable (up x n) h = tt
+  writable (down x n) h = tt

@@ -1,5 +1,5 @@
 -- A call's packet, what the code reads of it, and the cells of a table: no question is asked here.
-use mathlib.Core.Path.{_≡_, refl, ap, _∙_}
+use mathlib.Core.Path.{_≡_, refl, sym, ap, _∙_}
 use mathlib.Core.Logic.{inl, inr, ⊎-elim}
 use mathlib.Core.Bool.{Bool, true, false, cond}
 use mathlib.Core.List.{List}
@@ -9,14 +9,15 @@ use lib.Dec.{eqb}
 use lib.ListN.{length}
 use borrow.Author.Tests.{eqb-true, eqb-false, ne-eqb}
 use Rattle.machine.specs.Words.{isCell}
-use Rattle.machine.specs.Table.{capacity, tableLength, wordAt}
+use Rattle.machine.specs.Table.{left, right, capacity, tableLength, wordAt}
 use Rattle.machine.specs.Packets.{raises, lowers, unknown, kindOf}
 use Rattle.machine.specs.Facts.{TableShape}
-use Rattle.machine.specs.Calls.{RowCall, car, cdr, cons, setLeft, setRight, up, down, field, packetOf, valueOf}
+use Rattle.machine.specs.Calls.{RowCall, car, cdr, cons, setLeft, setRight, up, down, field, packetOf, readsNil, valueOf}
 use Rattle.machine.specs.declared.RowCall as declared
 use Rattle.machine.specs.Answers.{callOf}
 use Rattle.machine.proofs.Range.{tested}
 use Rattle.machine.proofs.Words.{cell-index, cell-number}
+use Rattle.machine.proofs.NilReads.{word-read}
 use Rattle.queue.proofs.Totals.{kind-unknown}
 use Rattle.calls.specs.Early.{Replaces}
 use Rattle.calls.specs.Packets.{operandsOf, Operands, valueBy}
@@ -62,12 +63,12 @@ value-none n b c d1 d2 d3 d6 = simp (ne-eqb n 1 d1, ne-eqb n 2 d2, ne-eqb n 3 d3
     go false false = refl
 
 -- the value replied, by the packet
-pub packet-value : (t : List ℕ) (r : RowCall) → let p = packetOf t r in valueBy (kindOf (p .kind)) (p .b) (p .c) ≡ valueOf t r
-unfolding packetOf kindOf valueOf
-packet-value t (car x) = refl
-packet-value t (cdr x) = refl
-packet-value t (cons x y) = refl
-packet-value t (setLeft x y) = refl
-packet-value t (setRight x y) = refl
-packet-value t (up x n) = refl
-packet-value t (down x n) = refl
+pub packet-value : (t : List ℕ) (r : RowCall) → readsNil r ≡ false → let p = packetOf t r in valueBy (kindOf (p .kind)) (p .b) (p .c) ≡ valueOf t r
+unfolding packetOf kindOf readsNil valueOf
+packet-value t (car x) e = sym (word-read t x e left)
+packet-value t (cdr x) e = sym (word-read t x e right)
+packet-value t (cons x y) e = refl
+packet-value t (setLeft x y) e = refl
+packet-value t (setRight x y) e = refl
+packet-value t (up x n) e = refl
+packet-value t (down x n) e = refl

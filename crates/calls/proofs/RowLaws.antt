@@ -1,6 +1,7 @@
 -- What a row call gives, refused and done, whichever it is.
 use mathlib.Core.Path.{_≡_, refl, sym, ap, _∙_}
-use mathlib.Core.List.{List, []}
+use mathlib.Core.Bool.{Bool, true, false}
+use mathlib.Core.List.{List, [], _++_}
 use Prim.Native.Nat.{ℕ, zero, suc, _+_, _%_}
 use native.Mathlib.Omega.{arith}
 use Rattle.machine.specs.declared.Queue.{Queue}
@@ -8,17 +9,19 @@ use Rattle.machine.specs.declared.RowAnswer
 use Rattle.machine.specs.declared.RowAnswer.{RowAnswer}
 use Rattle.machine.specs.declared.Asked
 use Rattle.machine.specs.declared.Asked.{Asked}
+use Rattle.machine.specs.declared.Refusal
 use Rattle.machine.specs.declared.Refusal.{Refusal}
 use Rattle.machine.specs.Queue.{Packet, slots, putSlot, appended}
 use Rattle.machine.specs.Packets.{kindOf}
-use Rattle.machine.specs.Calls.{RowCall, row, value, refused, store, packetOf, written, valueOf}
+use Rattle.machine.specs.Calls.{RowCall, row, value, refused, store, packetOf, readsNil, written, valueOf}
 use Rattle.machine.specs.Step.{Outcome, outcome}
-use Rattle.machine.specs.Questions.{firstNo, early}
+use Rattle.machine.specs.Questions.{Question, firstNo, refusedBy, inRange, early, lateRow, late, questions}
 use Rattle.machine.specs.Machine.{accepted, answered}
 use Rattle.machine.specs.Answers.{refusalNumber, askedNumber, rowReply}
 use Rattle.machine.proofs.Answers.{refusal-some, asked-no, asked-yes}
+use Rattle.machine.proofs.NilReads.{nil-accepted, nil-questions, queued-accepted}
 use Rattle.calls.specs.Packets.{valueBy}
-use Rattle.calls.specs.Tests.{codeLate, codeQuestions}
+use Rattle.calls.specs.Tests.{codeLate, codeLateRow, codeQuestions}
 use Rattle.calls.specs.Called.{EarlyYes, answerOf, outcomeOf, RowAsked, Queued, RowCalled}
 use Rattle.calls.proofs.EarlyLaws.{early-first, late-first}
 use Rattle.calls.proofs.PacketLaws.{packet-value}
@@ -27,13 +30,22 @@ use Rattle.calls.proofs.CallLaws.{questions-split}
 done-or-refused : (v n : ℕ) → value v ≡ refused n → ⊥
 done-or-refused v n e = let z : _≡_ {A = ℕ} 0 1 = cc in omega arith
 
+-- of a read of nil the code asks the paper's questions
+pub nil-late : (t : List ℕ) (q : Queue) (r : RowCall) → readsNil r ≡ true → codeLateRow t q r ≡ lateRow t q r
+unfolding codeLateRow lateRow
+nil-late t q r e = rw e
+
+pub code-nil : (t : List ℕ) (q : Queue) (r : RowCall) → readsNil r ≡ true → codeQuestions t q r ≡ questions (store t q []) (row r)
+unfolding codeQuestions questions late
+code-nil t q r e = ap (λ (ks : List Question). early (store t q []) (row r) ++ ks) (nil-late t q r e)
+
 module _ (t : List ℕ) (q : Queue) (r : RowCall) where
   pub outcome-refused : (n : ℕ) → firstNo (codeQuestions t q r) ≡ suc n → outcomeOf t q r ≡ outcome (refused (suc n)) (store t q [])
   unfolding outcomeOf answered
   outcome-refused n e = rw e
 
-  pub outcome-done : firstNo (codeQuestions t q r) ≡ 0 → outcomeOf t q r ≡ outcome (value (valueOf t r)) (store (written t r) (appended q (packetOf t r)) [])
-  unfolding outcomeOf answered accepted
+  pub outcome-done : firstNo (codeQuestions t q r) ≡ 0 → outcomeOf t q r ≡ accepted (store t q []) (row r)
+  unfolding outcomeOf answered
   outcome-done e = rw e
 
   -- the first "no" refuses, and nothing changes
@@ -50,20 +62,33 @@ module _ (t : List ℕ) (q : Queue) (r : RowCall) where
           }
 
   -- and where there is none the call is done
-  asked-done : (v : ℕ) (q′ : Queue) → firstNo (codeQuestions t q r) ≡ 0 → v ≡ valueOf t r → q′ ≡ appended q (packetOf t r)
+  asked-done : (v : ℕ) (q′ : Queue) → readsNil r ≡ false → firstNo (codeQuestions t q r) ≡ 0 → v ≡ valueOf t r → q′ ≡ appended q (packetOf t r)
       → RowAsked t q r (RowAnswer.Done v) q′
-  asked-done v q′ e d c =
-      let o = outcome-done e in
+  asked-done v q′ n e d c =
+      let o = outcome-done e ∙ queued-accepted (store t q []) r n in
       record {
         reply = ap value d ∙ sym (ap (λ (x : Outcome). x .reply) o);
         queue = c ∙ sym (ap (λ (x : Outcome). x .after .queue) o);
       }
 
+  -- of a read of nil question 1 decides
+  module _ (n : readsNil r ≡ true) where
+    nil-first : firstNo (codeQuestions t q r) ≡ refusedBy (inRange t q) 1 0
+    nil-first = ap firstNo (code-nil t q r n) ∙ nil-questions r n (store t q [])
+
+    pub nil-refused : (a : RowAnswer) (q′ : Queue) → inRange t q ≡ false → a ≡ RowAnswer.Refused Refusal.StoreOutOfRange → q′ ≡ q → RowAsked t q r a q′
+    nil-refused a q′ h e k = rw e (asked-refused Refusal.StoreOutOfRange q′ (sym (nil-first ∙ ap (λ (b : Bool). refusedBy b 1 0) h)) k)
+
+    pub nil-done : inRange t q ≡ true → RowAsked t q r (RowAnswer.Done 0) q
+    nil-done h =
+        let o = outcome-done (nil-first ∙ ap (λ (b : Bool). refusedBy b 1 0) h) ∙ nil-accepted r n (store t q []) in
+        record { reply = sym (ap (λ (x : Outcome). x .reply) o); queue = sym (ap (λ (x : Outcome). x .after .queue) o) }
+
   -- an early "no" is the call's
-  pub early-refused : (asked : Asked) (f : Refusal) (a : RowAnswer) (q′ : Queue) → askedNumber asked ≡ firstNo (early (store t q []) (row r)) → asked ≡ Asked.No f
+  pub early-refused : (asked : Asked) (f : Refusal) (a : RowAnswer) (q′ : Queue) → readsNil r ≡ false → askedNumber asked ≡ firstNo (early (store t q []) (row r)) → asked ≡ Asked.No f
       → a ≡ RowAnswer.Refused f → q′ ≡ q → RowAsked t q r a q′
-  early-refused asked f a q′ s said h k =
-      let first = early-first (firstNo (codeQuestions t q r)) (firstNo (early (store t q []) (row r))) (firstNo (codeLate t q (packetOf t r))) asked f (questions-split t q r) s said in
+  early-refused asked f a q′ n s said h k =
+      let first = early-first (firstNo (codeQuestions t q r)) (firstNo (early (store t q []) (row r))) (firstNo (codeLate t q (packetOf t r))) asked f (questions-split t q r n) s said in
       rw h (asked-refused f q′ (asked-no first said) k)
 
   -- the table that goes with the answer
@@ -79,9 +104,11 @@ module _ (t : List ℕ) (q : Queue) (r : RowCall) where
         go (suc m) d = absurd (done-or-refused v (suc m) (sym (ap rowReply e) ∙ h .reply ∙ ap (λ (x : Outcome). x .reply) (outcome-refused m d)))
 
     pub done-called : (v : ℕ) (t′ : List ℕ) → a ≡ RowAnswer.Done v → t′ ≡ written t r → RowCalled t q r a t′ q′
+    unfolding accepted
     done-called v t′ e w = with-table t′ (w ∙ sym (ap (λ (x : Outcome). x .after .table) (outcome-done (done-yes v e))))
 
     pub refused-called : (f : Refusal) → a ≡ RowAnswer.Refused f → RowCalled t q r a t q′
+    unfolding accepted
     refused-called f e = go (firstNo (codeQuestions t q r)) refl
       where
         go : (m : ℕ) → firstNo (codeQuestions t q r) ≡ m → RowCalled t q r a t q′
@@ -90,6 +117,7 @@ module _ (t : List ℕ) (q : Queue) (r : RowCall) where
         go (suc m) d = with-table t (sym (ap (λ (x : Outcome). x .after .table) (outcome-refused m d)))
 
     pub read-called : written t r ≡ t → RowCalled t q r a t q′
+    unfolding accepted
     read-called w = go (firstNo (codeQuestions t q r)) refl
       where
         go : (m : ℕ) → firstNo (codeQuestions t q r) ≡ m → RowCalled t q r a t q′
@@ -100,7 +128,7 @@ module _ (t : List ℕ) (q : Queue) (r : RowCall) where
 module _ (t : List ℕ) (q : Queue) (p : Packet) (asked : Asked) (late : askedNumber asked ≡ firstNo (codeLate t q p)) where
   whole : (r : RowCall) → EarlyYes t q r p → askedNumber asked ≡ firstNo (codeQuestions t q r)
   whole r y =
-      late-first (firstNo (codeQuestions t q r)) (firstNo (early (store t q []) (row r))) (firstNo (codeLate t q (packetOf t r))) asked (questions-split t q r)
+      late-first (firstNo (codeQuestions t q r)) (firstNo (early (store t q []) (row r))) (firstNo (codeLate t q (packetOf t r))) asked (questions-split t q r (y .queues))
       (y .early) (late ∙ ap (λ (s : Packet). firstNo (codeLate t q s)) (y .packet))
 
   pub queued-refused : (v : ℕ) (f : Refusal) (a : RowAnswer) (q′ : Queue) → asked ≡ Asked.No f → a ≡ answerOf asked v → q′ ≡ q → Queued t q p a q′
@@ -109,8 +137,8 @@ module _ (t : List ℕ) (q : Queue) (p : Packet) (asked : Asked) (late : askedNu
   pub queued-done : (v : ℕ) (a : RowAnswer) (q′ : Queue) → asked ≡ Asked.Yes → a ≡ answerOf asked v → v ≡ valueBy (kindOf (p .kind)) (p .b) (p .c)
       → q′ ≡ appended q p → Queued t q p a q′
   queued-done v a q′ said h d c r y =
-      rw (h, said) (asked-done t q r v q′ (sym (asked-yes (whole r y) said))
-      (d ∙ ap (λ (s : Packet). valueBy (kindOf (s .kind)) (s .b) (s .c)) (y .packet) ∙ packet-value t r) (c ∙ ap (appended q) (y .packet)))
+      rw (h, said) (asked-done t q r v q′ (y .queues) (sym (asked-yes (whole r y) said))
+      (d ∙ ap (λ (s : Packet). valueBy (kindOf (s .kind)) (s .b) (s .c)) (y .packet) ∙ packet-value t r (y .queues)) (c ∙ ap (appended q) (y .packet)))
 
 -- the packet in the slot that the code finds
 pub appended-at : (q q′ : Queue) (p : Packet) (j : ℕ) → j ≡ (q .place + q .count) % slots → q′ ≡ putSlot q j p (q .place) (q .count + 1) → q′ ≡ appended q p

@@ -1,5 +1,6 @@
 -- What a row call and a fresh give, for any table, queue and numbers: refused with nothing changed, or done as the machine does it.
 use mathlib.Core.Path.{_≡_}
+use mathlib.Core.Bool.{true, false}
 use mathlib.Core.List.{List, []}
 use Prim.Native.Nat.{ℕ}
 use Rattle.machine.specs.declared.Queue.{Queue}
@@ -9,15 +10,16 @@ use Rattle.machine.specs.declared.RowAnswer
 use Rattle.machine.specs.declared.RowAnswer.{RowAnswer}
 use Rattle.machine.specs.declared.FreshAnswer.{FreshAnswer}
 use Rattle.machine.specs.Queue.{Packet}
-use Rattle.machine.specs.Calls.{RowCall, row, fresh, store, packetOf}
+use Rattle.machine.specs.Calls.{RowCall, row, fresh, store, packetOf, readsNil}
 use Rattle.machine.specs.Step.{Outcome}
 use Rattle.machine.specs.Questions.{firstNo, early}
 use Rattle.machine.specs.Machine.{answered, machine}
 use Rattle.machine.specs.Answers.{rowReply, freshReply}
 use Rattle.calls.specs.Tests.{codeQuestions}
 
--- questions 1 to 5 say "yes" of the call r, and p is its packet
+-- questions 1 to 5 say "yes" of the call r, which is no read of nil, and p is its packet
 pub record EarlyYes (t : List ℕ) (q : Queue) (r : RowCall) (p : Packet) : Type 0 where
+  pub queues : readsNil r ≡ false
   pub early : firstNo (early (store t q []) (row r)) ≡ 0
   pub packet : p ≡ packetOf t r
 
@@ -38,6 +40,10 @@ pub record RowAsked (t : List ℕ) (q : Queue) (r : RowCall) (a : RowAnswer) (q�
 -- which is so of every call of the packet p that questions 1 to 5 have passed
 abbrev pub Queued : List ℕ → Queue → Packet → RowAnswer → Queue → Type 0
 Queued t q p a q′ = (r : RowCall) → EarlyYes t q r p → RowAsked t q r a q′
+
+-- and of every read of nil
+abbrev pub NilRead : List ℕ → Queue → RowAnswer → Queue → Type 0
+NilRead t q a q′ = (r : RowCall) → readsNil r ≡ true → RowAsked t q r a q′
 
 pub record RowCalled (t : List ℕ) (q : Queue) (r : RowCall) (a : RowAnswer) (t′ : List ℕ) (q′ : Queue) : Type 0 where
   pub reply : rowReply a ≡ outcomeOf t q r .reply

@@ -13,7 +13,7 @@ use Rattle.machine.specs.Words.{isCell, ceiling}
 use Rattle.machine.specs.Table.{capacity, firstFree, wordAt}
 use Rattle.machine.specs.Queue.{Packet, queueOf, waiting}
 use Rattle.machine.specs.Packets.{Kind, reads, makes, replaces, raises, lowers, unknown, kindOf, Counter, root, cell, plus, minus, Change, changes, sameCounter, sameDirection, movedBy, waitingChange}
-use Rattle.machine.specs.Calls.{RowCall, row, store, packetOf}
+use Rattle.machine.specs.Calls.{RowCall, row, store, packetOf, readsNil}
 use Rattle.machine.specs.Step.{counterWord}
 use Rattle.machine.specs.Questions.{Question, ask, firstNo, early, heldEnough, slotEmpty}
 use Rattle.machine.specs.Answers.{askedNumber}
@@ -54,6 +54,10 @@ codeLate t q p =
 abbrev pub LateAnswer : List ℕ → List ℕ → List ℕ → List ℕ → ℕ → ℕ → Packet → Asked → Type 0
 LateAnswer t kinds a b place count p r = (c : List ℕ) → askedNumber r ≡ firstNo (codeLate t (queueOf kinds a b c place count) p)
 
+-- of a read of nil none of them
+unfoldable pub codeLateRow : List ℕ → Queue → RowCall → List Question
+codeLateRow t q r = cond (readsNil r) [] (codeLate t q (packetOf t r))
+
 -- all questions of a row call as the code asks them
 unfoldable pub codeQuestions : List ℕ → Queue → RowCall → List Question
-codeQuestions t q r = early (store t q []) (row r) ++ codeLate t q (packetOf t r)
+codeQuestions t q r = early (store t q []) (row r) ++ codeLateRow t q r

@@ -3,10 +3,11 @@ use machine::Asked;
 use machine::Refusal;
 use machine::RowCall;
 ghost use mathlib.Core.Path.{_≡_};
+ghost use mathlib.Core.Bool.{false};
 ghost use mathlib.Core.List.{[]};
 ghost use Rattle.machine.specs.declared.Queue.{Queue};
 ghost use Rattle.machine.specs.Queue.{placed};
-ghost use Rattle.machine.specs.Calls.{row, store};
+ghost use Rattle.machine.specs.Calls.{row, store, readsNil};
 ghost use Rattle.machine.specs.Questions.{firstNo, early};
 ghost use Rattle.machine.specs.Answers.{askedNumber, callOf};
 ghost use Rattle.calls.specs.Early.{wordsNumber, cellNumber};
@@ -45,7 +46,9 @@ fn cell_asked(table: &[u16], place: u16, count: u16, n: u16, x: u16, y: u16) -> 
     Asked::No(Refusal::NotACell)
 }
 
+// Of any call but a read of nil.
 pub fn early_asked(table: &[u16], place: u16, count: u16, call: RowCall) -> Asked
+    requires { ⌜ readsNil (callOf call) ≡ false ⌝ }
     ensures { λ r. ⌜ ((q : Queue) → askedNumber r ≡ firstNo (early (store (now (table .entry)) (placed q place count) []) (row (callOf call)))) ⌝ }
 {
     match call {

@@ -1,6 +1,6 @@
-// Fresh and the seven row calls, for any table, queue and numbers. Every row call goes the same way: its questions are asked, its packet joins the queue,
-// and it writes into the table only if no question says "no". Questions 1 to 5 look at no packet, so a call that one of them refuses hands the queue back
-// as it came; the others are asked of the queue that the packet is to join, so that it is copied once for both.
+// Fresh and the seven row calls, for any table, queue and numbers. Every row call but a read of nil goes the same way: its questions are asked, its packet
+// joins the queue, and it writes into the table only if no question says "no". Questions 1 to 5 look at no packet, so a call that one of them refuses hands
+// the queue back as it came; the others are asked of the queue that the packet is to join, so that it is copied once for both.
 mod chain;
 mod early;
 mod late;
@@ -28,7 +28,7 @@ ghost use Rattle.machine.specs.Facts.{Shape};
 ghost use Rattle.machine.specs.Answers.{callOf};
 ghost use Rattle.queue.specs.Sums.{packetOf};
 ghost use Rattle.calls.specs.Packets.{Operands};
-ghost use Rattle.calls.specs.Called.{answerOf, RowAsked, Queued, RowCalled, FreshCalled};
+ghost use Rattle.calls.specs.Called.{answerOf, RowAsked, Queued, NilRead, RowCalled, FreshCalled};
 
 // A row call's answer beside the queue.
 pub struct RowReply {
@@ -109,10 +109,26 @@ fn queued(table: &[u16], queue: Queue, packet: Packet) -> RowReply
     }
 }
 
+// The end of a list: only question 1 can refuse a read of nil, and no packet is looked at.
+fn nil_read(table: &[u16], queue: Queue) -> RowReply
+    ensures { λ r. ⌜ NilRead (now (table .entry)) queue (r .answer) (r .queue) ⌝ }
+{
+    if questions::in_range(table, queue.place, queue.count) {
+        return RowReply {
+            answer: RowAnswer::Done(0),
+            queue: queue,
+        };
+    }
+    refused(queue, Refusal::StoreOutOfRange)
+}
+
 // A row call but for what it writes into the table.
 fn asked_row(table: &[u16], queue: Queue, call: RowCall) -> RowReply
     ensures { λ r. ⌜ RowAsked (now (table .entry)) queue (callOf call) (r .answer) (r .queue) ⌝ }
 {
+    if questions::reads_nil(call) {
+        return nil_read(table, queue);
+    }
     let asked = early_asked(table, queue.place, queue.count, call);
     match asked {
         Asked::No(refusal) => refused(queue, refusal),

@@ -14,6 +14,7 @@ pub more : More-cases
 unfolding computes
 more = record {
   replies = (refl, (refl, (refl, (refl, (refl, (refl, (refl, (refl, (refl, (refl, (refl, tt)))))))))));
+  nil-reads = (refl, (refl, (refl, (refl, tt))));
   detach-ends = refl;
   itself = refl;
 }

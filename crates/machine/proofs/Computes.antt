@@ -6,12 +6,12 @@ use Rattle.machine.specs.Queue.{slot, putSlot, appended, taken, packetsF
 use Rattle.machine.specs.Packets.{kindOf, changesOf, changes, namesOf, names, usesOf, uses, movedBy, waitingChange, contains, isNamed}
 use Rattle.machine.specs.Counts.{heldAtLeast, heldAtMost, pointersFrom, pointers}
 use Rattle.machine.specs.Reached.{isRoot, pointsTo, marked, spread, marks, reachedBy, reached}
-use Rattle.machine.specs.Calls.{field, packetOf, withoutFirst, written, valueOf, chained, freshTable}
+use Rattle.machine.specs.Calls.{field, packetOf, readsNil, withoutFirst, written, wordRead, valueOf, chained, freshTable}
 use Rattle.machine.specs.Step.{moveCount, applyChanges, unreached, lowerPointers, join, joinAll, swept, cleared, stepWith, stepFrom, stepped}
 use Rattle.machine.specs.Questions.{firstNo, inRange, longEnough, scratchEnough, cellsInRange, numberInRange, wordsLegal, xIsCell, heldEnough, slotEmpty, cellFree, heldWithin, pointersWithin, earlyRow, early, askFree, lateRow, late, questions}
 use Rattle.machine.specs.Audit.{fieldSound, cellSound, cellsSound, walk, freeChain, laidOut, metOnce, chainSound, isZeroPacket, otherSlotsZero, wordsOfKind, packetLegal, namesInUse, packetsLegal, replayed, replays, packetsSound, undoableOf, undoneOf, undoable, undone, before, undoes, pointersSound, allReached, rules, auditReply, audited}
 use Rattle.machine.specs.Machine.{accepted, answered, machine, run, replies}
 
 unfoldable pub computes : Unit {0}
-unfolding every exists total select tabulate matching occurrences everyOf lastOf isNil isCell isAtom isLegal capacity firstFree lastFree scratchWords position wordAt putWord putEnds putWords putCell inUse isFree slot putSlot appended taken packetsFrom waiting kindOf changesOf changes namesOf names usesOf uses movedBy waitingChange contains isNamed heldAtLeast heldAtMost pointersFrom pointers isRoot pointsTo marked spread marks reachedBy reached field packetOf withoutFirst written valueOf chained freshTable moveCount applyChanges unreached lowerPointers join joinAll swept cleared stepWith stepFrom stepped firstNo inRange longEnough scratchEnough cellsInRange numberInRange wordsLegal xIsCell heldEnough slotEmpty cellFree heldWithin pointersWithin earlyRow early askFree lateRow late questions accepted answered machine run replies fieldSound cellSound cellsSound walk freeChain laidOut metOnce chainSound isZeroPacket otherSlotsZero wordsOfKind packetLegal namesInUse packetsLegal replayed replays packetsSound undoableOf undoneOf undoable undone before undoes pointersSound allReached rules auditReply audited
+unfolding every exists total select tabulate matching occurrences everyOf lastOf isNil isCell isAtom isLegal capacity firstFree lastFree scratchWords position wordAt putWord putEnds putWords putCell inUse isFree slot putSlot appended taken packetsFrom waiting kindOf changesOf changes namesOf names usesOf uses movedBy waitingChange contains isNamed heldAtLeast heldAtMost pointersFrom pointers isRoot pointsTo marked spread marks reachedBy reached field packetOf readsNil withoutFirst written wordRead valueOf chained freshTable moveCount applyChanges unreached lowerPointers join joinAll swept cleared stepWith stepFrom stepped firstNo inRange longEnough scratchEnough cellsInRange numberInRange wordsLegal xIsCell heldEnough slotEmpty cellFree heldWithin pointersWithin earlyRow early askFree lateRow late questions accepted answered machine run replies fieldSound cellSound cellsSound walk freeChain laidOut metOnce chainSound isZeroPacket otherSlotsZero wordsOfKind packetLegal namesInUse packetsLegal replayed replays packetsSound undoableOf undoneOf undoable undone before undoes pointersSound allReached rules auditReply audited
 computes = tt

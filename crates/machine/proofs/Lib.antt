@@ -17,6 +17,7 @@ pub mod Fresh
 pub mod Answers
 pub mod Questions
 pub mod Kept
+pub mod NilReads
 pub mod AuditedSound
 pub mod Computes
 pub mod Cases

@@ -1,5 +1,6 @@
 -- Question 10 at a crowded table: what the questions say of a replace that would add one pointer.
 use mathlib.Core.Path.{_≡_, refl, ap₂}
+use mathlib.Core.Logic.{inl}
 use mathlib.Core.Bool.{Bool, true, false, cond, _||_}
 use mathlib.Core.List.{List, [], _∷_}
 use Prim.Native.Nat.{ℕ, suc, _+_, _*_, _≤_, _<_}
@@ -12,7 +13,7 @@ use Rattle.machine.specs.Table.{rootCount, capacity, position, wordAt, p
 use Rattle.machine.specs.Queue.{Packet, packet, emptyQueue, slot, putSlot, appended, waiting, packetsFrom}
 use Rattle.machine.specs.Packets.{kindOf, root, plus, minus, changesOf, changes, usesOf, uses, movedBy, waitingChange}
 use Rattle.machine.specs.Counts.{heldAtLeast, heldAtMost, pointers}
-use Rattle.machine.specs.Calls.{row, setRight, Store, store, field, packetOf, written}
+use Rattle.machine.specs.Calls.{row, setRight, Store, store, field, packetOf, readsNil, written}
 use Rattle.machine.specs.Questions.{wordsLegal, xIsCell, heldEnough, slotEmpty, heldWithin, pointersWithin, earlyRow, early, askFree, lateRow, late, questions}
 use Rattle.machine.specs.Audit.{Sound}
 use Rattle.machine.specs.WrongAnswers.{noes, refuses, Only, AllOnly, crowded, pointer-entries}
@@ -109,7 +110,7 @@ module _ (n holds : ℕ) (some : 1 ≤ holds) (few : holds ≤ ceiling) (fits : 
     lent = store u emptyQueue s
 
     noes-are : (b : Bool) → heldEnough u [] (replace 0) ≡ b → noes (questions lent (row (setRight 1 1))) ≡ cond b (10 ∷ []) (6 ∷ 10 ∷ [])
-    unfolding noes questions early earlyRow late lateRow askFree slotEmpty
+    unfolding noes questions early earlyRow late lateRow readsNil askFree slotEmpty
     noes-are b h =
         let yes = shape n 0 holds (omega arith) some few refl fits in
         rw (yes, legal, is-cell, packet-is, waiting-none, waiting-one (replace 0), written-is n holds, h, held-few 0, over tight)
@@ -118,10 +119,10 @@ module _ (n holds : ℕ) (some : 1 ≤ holds) (few : holds ≤ ceiling) (fits : 
     sound = sound-table n 0 holds (omega arith) some few refl fits
 
     only-ten : 2 ≤ holds → Only (refuses lent (row (setRight 1 1)) 10 [])
-    only-ten h = let e = noes-are true (enough 0 h) in (e, only-first lent (row (setRight 1 1)) 9 [] sound e)
+    only-ten h = let e = noes-are true (enough 0 h) in (e, only-first lent (row (setRight 1 1)) 9 [] (inl sound) e)
 
     only-six : holds < 2 → Only (refuses lent (row (setRight 1 1)) 6 (10 ∷ []))
-    only-six h = let e = noes-are false (not-enough 0 h) in (e, only-first lent (row (setRight 1 1)) 5 (10 ∷ []) sound e)
+    only-six h = let e = noes-are false (not-enough 0 h) in (e, only-first lent (row (setRight 1 1)) 5 (10 ∷ []) (inl sound) e)
 
 -- the entries, with 2,047 cells beside the first
 pub pointers-only : AllOnly pointer-entries

@@ -7,7 +7,7 @@ use Prim.Native.Nat.{ℕ, zero, suc, _<_}
 use native.Mathlib.Omega.{arith}
 use lib.Dec.{eqb, ltb}
 use borrow.Author.Tests.{eqb-true, ltb-true}
-use Rattle.machine.specs.Calls.{Call, fresh, row, step, audit, refused, broken, Store}
+use Rattle.machine.specs.Calls.{Call, fresh, row, step, audit, refused, broken, Store, readsNil}
 use Rattle.machine.specs.Step.{Outcome, outcome}
 use Rattle.machine.specs.Questions.{Question, ask, inRange, firstNo, early, questions}
 use Rattle.machine.specs.Audit.{rules, auditReply, audited, Sound}
@@ -24,7 +24,7 @@ isSound s = eqb (firstNo (ask 1 (inRange (s .table) (s .queue)) ∷ rules (s .ta
 
 unfoldable pub isDecided : Store → Call → Bool
 isDecided s (fresh c) = true
-isDecided s (row r) = isSound s
+isDecided s (row r) = isSound s || readsNil r
 isDecided s step = eqb (s .queue .count) 0 || isSound s
 isDecided s audit = true
 
@@ -42,7 +42,7 @@ sound-is s h =
 decided-is : (s : Store) (call : Call) → isDecided s call ≡ true → Decided s call
 unfolding isDecided
 decided-is s (fresh c) h = tt
-decided-is s (row r) h = sound-is s h
+decided-is s (row r) h = ⊎-elim (λ e. inl (sound-is s e)) (λ e. inr e) (or-true (isSound s) (readsNil r) h)
 decided-is s step h =
     ⊎-elim (λ e. inr (eqb-true (s .queue .count) 0 e)) (λ e. inl (sound-is s e)) (or-true (eqb (s .queue .count) 0) (isSound s) h)
 decided-is s audit h = tt

@@ -1,7 +1,7 @@
 -- Laws of lists of questions: what the first "no" says, and what holds where there is none; question 1 as plain facts.
 use mathlib.Core.Path.{_≡_, refl, sym, _∙_}
 use mathlib.Core.Logic.{⊎-elim}
-use mathlib.Core.Bool.{true, false, _&&_}
+use mathlib.Core.Bool.{Bool, true, false, cond, _&&_}
 use mathlib.Core.List.{List, [], _∷_, _++_}
 use Prim.Native.Nat.{ℕ, suc, _≤_, _<_}
 use native.Mathlib.Omega.{arith}
@@ -14,12 +14,12 @@ use Rattle.machine.specs.declared.Asked
 use Rattle.machine.specs.declared.Asked.{Asked}
 use Rattle.machine.specs.Answers.{refusalNumber, askedNumber}
 use Rattle.machine.proofs.Answers.{asked-no, asked-yes}
-use Rattle.machine.specs.Words.{mostCells}
+use Rattle.machine.specs.Words.{isNil, mostCells}
 use Rattle.machine.specs.Table.{capacity, firstFree, lastFree, tableLength, scratchWords}
 use Rattle.machine.specs.Queue.{slots}
 use Rattle.machine.specs.Packets.{contains}
 use Rattle.machine.specs.Calls.{car, cdr, cons, setLeft, setRight, up, down, Call, fresh, row, step, audit, Store, store}
-use Rattle.machine.specs.Questions.{Question, firstNo, earlyRow, early, inRange, scratchEnough}
+use Rattle.machine.specs.Questions.{Question, ask, firstNo, xIsCell, earlyRow, early, inRange, scratchEnough}
 use Rattle.machine.specs.Facts.{Shape, Lent}
 use Rattle.machine.specs.Promise.{numbers}
 use Rattle.machine.proofs.Range.{tested, not-both, or-left, or-right, and-first, and-second}
@@ -85,11 +85,16 @@ firstNo-other n [] p h = no-questions n h
 firstNo-other n (k ∷ ks) p h =
     ⊎-elim (λ e. firstNo-other n ks (p .1) (sym (firstNo-yes k ks e) ∙ h)) (λ e. not-both (p .0 (sym (firstNo-no k ks e) ∙ h)) e) (tested (k .answer))
 
+-- a question that is asked only where a test says "no"
+numbered-unless : (b : Bool) (k : Question) → 0 < k .number → Numbered (cond b [] (k ∷ []))
+numbered-unless true k l = tt
+numbered-unless false k l = (l, tt)
+
 pub early-numbered : (s : Store) (call : Call) → Numbered (early s call)
 unfolding early earlyRow
 early-numbered s (fresh c) = (omega arith, (omega arith, tt))
-early-numbered s (row (car x)) = (omega arith, (omega arith, (omega arith, tt)))
-early-numbered s (row (cdr x)) = (omega arith, (omega arith, (omega arith, tt)))
+early-numbered s (row (car x)) = (omega arith, (omega arith, numbered-unless (isNil x) (ask 5 (xIsCell (s .table) x)) (omega arith)))
+early-numbered s (row (cdr x)) = (omega arith, (omega arith, numbered-unless (isNil x) (ask 5 (xIsCell (s .table) x)) (omega arith)))
 early-numbered s (row (cons x y)) = (omega arith, (omega arith, tt))
 early-numbered s (row (setLeft x y)) = (omega arith, (omega arith, (omega arith, tt)))
 early-numbered s (row (setRight x y)) = (omega arith, (omega arith, (omega arith, tt)))

@@ -1,10 +1,11 @@
 -- The calls, their replies, and what an accepted fresh or row call does (source 001's P1 to P5, figure 7, as document 01 amends them).
-use mathlib.Core.Bool.{cond}
+use mathlib.Core.Bool.{Bool, false, cond}
 use mathlib.Core.List.{List, [], _∷_}
 use Prim.Native.Nat.{ℕ, zero, suc, pred}
 use lib.Dec.{eqb}
 use lib.ListN.{set}
 use Rattle.machine.specs.declared.Queue.{Queue}
+use Rattle.machine.specs.Words.{isNil}
 use Rattle.machine.specs.Table.{left, right, firstFree, lastFree, wordAt, putWord, newCell, freeCell, putEnds, putCell}
 use Rattle.machine.specs.Queue.{Packet, packet}
 
@@ -45,7 +46,7 @@ store t q s = record { table = t; queue = q; scratch = s }
 unfoldable pub field : List ℕ → ℕ → ℕ → ℕ
 field t x k = wordAt t (pred x) k
 
--- the table of kinds, read by calls: the packet that a row call queues
+-- the table of kinds, read by calls: the packet of a row call
 unfoldable pub packetOf : List ℕ → RowCall → Packet
 packetOf t (car x) = packet 1 x (field t x left) 0
 packetOf t (cdr x) = packet 1 x (field t x right) 0
@@ -55,9 +56,19 @@ packetOf t (setRight x y) = packet 6 y (field t x right) x
 packetOf t (up x n) = packet 4 x n 0
 packetOf t (down x n) = packet 5 x n 0
 
--- the packets that an accepted row call queues
+-- a read of nil, the end of a list (document 02, A1)
+unfoldable pub readsNil : RowCall → Bool
+readsNil (car x) = isNil x
+readsNil (cdr x) = isNil x
+readsNil (cons x y) = false
+readsNil (setLeft x y) = false
+readsNil (setRight x y) = false
+readsNil (up x n) = false
+readsNil (down x n) = false
+
+-- the packets that an accepted row call queues: its one, or none if it reads nil
 abbrev pub packetsOf : List ℕ → RowCall → List Packet
-packetsOf t r = packetOf t r ∷ []
+packetsOf t r = cond (readsNil r) [] (packetOf t r ∷ [])
 
 -- remove_cell: the first free cell leaves the chain; the last one leaves both ends 0
 unfoldable pub withoutFirst : List ℕ → List ℕ
@@ -75,10 +86,14 @@ written t (setRight x y) = putWord t (pred x) right y
 written t (up x n) = t
 written t (down x n) = t
 
+-- the word that a read of x gives: its field k; nil of nil
+unfoldable pub wordRead : List ℕ → ℕ → ℕ → ℕ
+wordRead t x k = cond (isNil x) 0 (field t x k)
+
 -- the new cell, the word read, the word detached, else 0
 unfoldable pub valueOf : List ℕ → RowCall → ℕ
-valueOf t (car x) = field t x left
-valueOf t (cdr x) = field t x right
+valueOf t (car x) = wordRead t x left
+valueOf t (cdr x) = wordRead t x right
 valueOf t (cons x y) = firstFree t
 valueOf t (setLeft x y) = field t x left
 valueOf t (setRight x y) = field t x right

@@ -1,5 +1,5 @@
--- The worked cases of document 01, K1 to K11 and the full queue, as one table of the machine's definition; and cases that tell the
--- machine from slips which K1 to K11 do not show. Each is proved by computation.
+-- The worked cases of document 01, K1 to K11 and the full queue, as one table of the machine's definition, K11 as document 02 (A1) has it; and
+-- cases that tell the machine from slips which K1 to K11 do not show. Each is proved by computation.
 use mathlib.Core.Path.{_≡_}
 use mathlib.Core.List.{List, [], _∷_, _++_}
 use Prim.Native.Nat.{ℕ}
@@ -54,11 +54,13 @@ K1-table =
     ∷ 0 ∷ 0 ∷ 0 ∷ 0 ∷ 0
     ∷ 1 ∷ 0 ∷ 0 ∷ 0 ∷ 0 ∷ []
 
--- 64 packets waiting and no cell free: NO 7, though question 8 fails too
+-- these calls with 64 packets waiting and no cell free
+abbrev when-full : List Call → List Reply → Case
+when-full cs rs = case (fresh 1 ∷ row (cons 0 0) ∷ replicate 63 (row (up 1 1)) ++ cs) (value 0 ∷ value 1 ∷ replicate 63 (value 0) ++ rs)
+
+-- a cons is NO 7, though question 8 fails too
 abbrev full-queue : Case
-full-queue =
-    case (fresh 1 ∷ row (cons 0 0) ∷ replicate 63 (row (up 1 1)) ++ (row (cons 0 0) ∷ []))
-    (value 0 ∷ value 1 ∷ replicate 63 (value 0) ++ (refused 7 ∷ []))
+full-queue = when-full (row (cons 0 0) ∷ []) (refused 7 ∷ [])
 
 abbrev pub K-cases : List Case
 K-cases =
@@ -71,7 +73,7 @@ K-cases =
     ∷ after-cons (row (cons 4 0) ∷ []) (refused 4 ∷ [])
     ∷ after-cons (row (car 32775) ∷ []) (refused 5 ∷ [])
     ∷ after-cons (row (cdr 1) ∷ step ∷ step ∷ []) (value 32775 ∷ applied 2 0 ∷ applied 1 1 ∷ [])
-    ∷ after-cons (row (car 0) ∷ []) (refused 5 ∷ [])
+    ∷ after-cons (row (car 0) ∷ []) (value 0 ∷ [])
     ∷ full-queue
     ∷ []
 
@@ -133,6 +135,25 @@ audit-cases =
     ∷ audits (1 ∷ 0 ∷ 0 ∷ 1 ∷ 0 ∷ 0 ∷ 1 ∷ 1 ∷ []) emptyQueue (broken 5)
     ∷ []
 
+-- the walk of a list of three with cdr to its end, and one read past it; the packets of the cons calls and of three reads are all that wait
+abbrev walk-of-three : Case
+walk-of-three =
+    case
+    (fresh 3 ∷ row (cons 32769 0) ∷ row (cons 32770 1) ∷ row (cons 32771 2) ∷ row (cdr 3) ∷ row (cdr 2) ∷ row (cdr 1) ∷ row (cdr 0) ∷ audit
+    ∷ step ∷ step ∷ step ∷ step ∷ step ∷ step ∷ step ∷ [])
+    (value 0 ∷ value 1 ∷ value 2 ∷ value 3 ∷ value 2 ∷ value 1 ∷ value 0 ∷ value 0 ∷ sound
+    ∷ applied 2 0 ∷ applied 2 0 ∷ applied 2 0 ∷ applied 1 1 ∷ applied 1 1 ∷ applied 1 1 ∷ idle ∷ [])
+
+-- reads of nil: with 64 packets waiting; with no cell in use, where no other call takes nil for x, and none waits afterwards; before a fresh
+abbrev nil-reads : List Case
+nil-reads =
+    when-full (row (car 0) ∷ row (cdr 0) ∷ row (car 1) ∷ []) (value 0 ∷ value 0 ∷ refused 7 ∷ [])
+    ∷ case (fresh 3 ∷ row (car 0) ∷ row (cdr 0) ∷ row (up 0 1) ∷ row (setLeft 0 0) ∷ step ∷ [])
+    (value 0 ∷ value 0 ∷ value 0 ∷ refused 5 ∷ refused 5 ∷ idle ∷ [])
+    ∷ case (row (car 0) ∷ row (cdr 0) ∷ []) (refused 1 ∷ refused 1 ∷ [])
+    ∷ walk-of-three
+    ∷ []
+
 -- a replace of a word by itself whose cell has 4,095 pointers: the cell count stands at 4,096 in passing and ends where it was
 abbrev pub at-ceiling : List ℕ
 at-ceiling = 1 ∷ 0 ∷ 0 ∷ 1 ∷ 0 ∷ 2 ∷ 4095 ∷ 1 ∷ []
@@ -142,5 +163,6 @@ at-ceiling-after = 1 ∷ 0 ∷ 0 ∷ 1 ∷ 0 ∷ 1 ∷ 4095 ∷ 1 ∷ []
 
 pub record More-cases : Type 0 where
   pub replies : AllHold (values ∷ case detach-calls detach-replies ∷ protected ∷ audit-cases)
+  pub nil-reads : AllHold nil-reads
   pub detach-ends : run unmade detach-calls .table ≡ detach-table
   pub itself : applyChanges at-ceiling (changes (packet 3 1 1 1)) ≡ at-ceiling-after

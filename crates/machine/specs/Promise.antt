@@ -7,15 +7,15 @@ use Prim.Native.Nat.{ℕ, suc}
 use lib.ListN.{length, drop}
 use Rattle.machine.specs.Table.{capacity, tableLength, scratchWords}
 use Rattle.machine.specs.Packets.{contains}
-use Rattle.machine.specs.Calls.{Call, fresh, row, step, audit, Reply, refused, Store}
+use Rattle.machine.specs.Calls.{Call, fresh, row, step, audit, Reply, refused, Store, readsNil}
 use Rattle.machine.specs.Questions.{Question, firstNo, early, late}
 use Rattle.machine.specs.Audit.{Sound}
 use Rattle.machine.specs.Machine.{machine}
 
--- where the papers decide all that a call gives: fresh and the audit always, an idle step always, any other call on a sound store
+-- where the papers decide all that a call gives: fresh and the audit always, an idle step and a read of nil always, any other call on a sound store
 abbrev pub Decided : Store → Call → Type 0
 Decided s (fresh c) = Unit {0}
-Decided s (row r) = Sound (s .table) (s .queue)
+Decided s (row r) = Sound (s .table) (s .queue) ⊎ (readsNil r ≡ true)
 Decided s step = Sound (s .table) (s .queue) ⊎ (s .queue .count ≡ 0)
 Decided s audit = Unit {0}
 

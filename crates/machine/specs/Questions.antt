@@ -1,18 +1,18 @@
 -- "Questions before a call": the ten questions, and for each call which are asked in what order.
-use mathlib.Core.Bool.{Bool, true, false, _&&_, _||_}
+use mathlib.Core.Bool.{Bool, true, false, cond, _&&_, _||_}
 use mathlib.Core.List.{List, [], _∷_, _++_}
 use Prim.Native.Nat.{ℕ, suc}
 use lib.Dec.{leb, ltb, eqb}
 use lib.ListN.{length}
 use Rattle.machine.specs.declared.Queue.{Queue}
 use Rattle.machine.specs.Range.{every, exists, everyOf}
-use Rattle.machine.specs.Words.{isCell, isLegal, ceiling, mostCells}
+use Rattle.machine.specs.Words.{isNil, isCell, isLegal, ceiling, mostCells}
 use Rattle.machine.specs.Table.{capacity, firstFree, lastFree, tableLength, scratchWords, isFree}
-use Rattle.machine.specs.Queue.{Packet, slots, appendedAll, waiting}
+use Rattle.machine.specs.Queue.{Packet, slots, appended, waiting}
 use Rattle.machine.specs.Packets.{uses}
 use Rattle.machine.specs.Counts.{heldAtLeast, heldAtMost, pointers}
 use Rattle.machine.specs.Calls.{RowCall, car, cdr, cons, setLeft, setRight, up, down}
-use Rattle.machine.specs.Calls.{Call, fresh, row, step, audit, Store, packetOf, packetsOf, written}
+use Rattle.machine.specs.Calls.{Call, fresh, row, step, audit, Store, packetOf, readsNil, written}
 
 -- a question's number, and its answer
 pub record Question : Type 0 where
@@ -90,10 +90,14 @@ heldWithin t ps = every (capacity t) (λ i. heldAtMost t ps i ceiling)
 unfoldable pub pointersWithin : List ℕ → Bool
 pointersWithin t = every (capacity t) (λ i. leb (pointers t (suc i)) ceiling)
 
+-- question 5 of a read, from which a read of nil is free: it is asked 1 and 4 only (document 02, A1)
+abbrev pub askRead : List ℕ → ℕ → List Question
+askRead t x = cond (isNil x) [] (ask 5 (xIsCell t x) ∷ [])
+
 -- questions 1 to 5, which have an answer on every store
 unfoldable pub earlyRow : List ℕ → RowCall → List Question
-earlyRow t (car x) = ask 4 (wordsLegal t (x ∷ [])) ∷ ask 5 (xIsCell t x) ∷ []
-earlyRow t (cdr x) = ask 4 (wordsLegal t (x ∷ [])) ∷ ask 5 (xIsCell t x) ∷ []
+earlyRow t (car x) = ask 4 (wordsLegal t (x ∷ [])) ∷ askRead t x
+earlyRow t (cdr x) = ask 4 (wordsLegal t (x ∷ [])) ∷ askRead t x
 earlyRow t (cons x y) = ask 4 (wordsLegal t (x ∷ y ∷ [])) ∷ []
 earlyRow t (setLeft x y) = ask 4 (wordsLegal t (x ∷ y ∷ [])) ∷ ask 5 (xIsCell t x) ∷ []
 earlyRow t (setRight x y) = ask 4 (wordsLegal t (x ∷ y ∷ [])) ∷ ask 5 (xIsCell t x) ∷ []
@@ -116,13 +120,17 @@ askFree t (setRight x y) = []
 askFree t (up x n) = []
 askFree t (down x n) = []
 
--- questions 6 to 10, asked of row calls: 9 and 10 of the store after the call
-unfoldable pub lateRow : List ℕ → Queue → RowCall → List Question
-lateRow t q r =
+-- questions 6 to 10, asked of row calls that queue a packet: 9 and 10 of the store after the call
+abbrev pub lateQueued : List ℕ → Queue → RowCall → List Question
+lateQueued t q r =
     ask 6 (heldEnough t (waiting q) (packetOf t r))
     ∷ ask 7 (slotEmpty q)
     ∷ askFree t r
-    ++ (ask 9 (heldWithin (written t r) (waiting (appendedAll q (packetsOf t r)))) ∷ ask 10 (pointersWithin (written t r)) ∷ [])
+    ++ (ask 9 (heldWithin (written t r) (waiting (appended q (packetOf t r)))) ∷ ask 10 (pointersWithin (written t r)) ∷ [])
+
+-- a read of nil is asked none of them
+unfoldable pub lateRow : List ℕ → Queue → RowCall → List Question
+lateRow t q r = cond (readsNil r) [] (lateQueued t q r)
 
 unfoldable pub late : Store → Call → List Question
 late s (fresh c) = []

@@ -1,16 +1,16 @@
 -- The wrong answers that the promise shuts out, as a table: at each entry's store and call one answer keeps the promise, so that no other does.
 use mathlib.Core.Path.{_≡_}
-use mathlib.Core.Bool.{cond}
+use mathlib.Core.Bool.{true, cond}
 use mathlib.Core.List.{List, [], _∷_, _++_, map}
 use Prim.Native.Nat.{ℕ, zero, suc, _*_}
 use lib.ListN.{take, set, replicate}
 use Rattle.machine.specs.declared.Queue.{Queue}
 use Rattle.machine.specs.Table.{stride, tableLength, capacity, scratchWords}
 use Rattle.machine.specs.Queue.{Packet, packet, slots, emptyQueue, putSlot, appended}
-use Rattle.machine.specs.Calls.{Call, fresh, row, step, audit, car, cdr, cons, setLeft, setRight, up, down}
-use Rattle.machine.specs.Calls.{Reply, value, refused, idle, applied, sound, broken, Store, store}
+use Rattle.machine.specs.Calls.{Call, fresh, row, step, audit, RowCall, car, cdr, cons, setLeft, setRight, up, down}
+use Rattle.machine.specs.Calls.{Reply, value, refused, idle, applied, sound, broken, Store, store, readsNil}
 use Rattle.machine.specs.Step.{cleared}
-use Rattle.machine.specs.Questions.{Question, questions}
+use Rattle.machine.specs.Questions.{Question, inRange, questions}
 use Rattle.machine.specs.Audit.{rules}
 use Rattle.machine.specs.Promise.{Decided, Promise}
 
@@ -134,7 +134,7 @@ skipped-entries =
     ++ refusals 3 [] quiet (fresh 0 ∷ row (up 1 0) ∷ row (down 1 0) ∷ [])
     ++ refusals 3 [] (lent (replicate (tableLength 4097) 0) emptyQueue) (fresh 4097 ∷ [])
     ++ refusals 4 [] quiet (row (cons 3 0) ∷ row (cons 0 32767) ∷ row (setLeft 1 3) ∷ row (setRight 1 3) ∷ [])
-    ++ refusals 5 [] quiet (row (car 0) ∷ row (cdr 32775) ∷ row (setLeft 0 1) ∷ row (setRight 32775 1) ∷ row (up 0 1) ∷ row (down 32775 1) ∷ [])
+    ++ refusals 5 [] quiet (row (car 32768) ∷ row (cdr 32775) ∷ row (setLeft 0 1) ∷ row (setRight 32775 1) ∷ row (up 0 1) ∷ row (down 32775 1) ∷ [])
     ++ refusals 6 [] quiet (row (car 2) ∷ row (cdr 2) ∷ row (cons 1 1) ∷ row (setLeft 1 1) ∷ row (setRight 1 1) ∷ row (up 2 1) ∷ row (down 1 2) ∷ [])
     ++ refusals 7 [] busy (row (car 1) ∷ row (cons 0 1) ∷ row (setLeft 1 1) ∷ row (up 1 1) ∷ row (down 1 1) ∷ [])
     ++ refusals 8 [] (lent alone emptyQueue) (row (cons 0 0) ∷ row (cons 1 0) ∷ [])
@@ -147,7 +147,7 @@ damaged-entries =
     refusals 2 [] (store (set held 7 2) emptyQueue (7 ∷ [])) (step ∷ audit ∷ [])
     ++ refusals 3 [] (lent (set held 7 2) emptyQueue) (row (up 1 0) ∷ row (down 1 0) ∷ [])
     ++ refusals 4 [] (lent (set held 7 2) emptyQueue) (row (cons 3 0) ∷ row (setLeft 1 3) ∷ [])
-    ++ refusals 5 [] (lent (set held 7 2) emptyQueue) (row (car 0) ∷ row (setRight 32775 1) ∷ row (up 0 1) ∷ [])
+    ++ refusals 5 [] (lent (set held 7 2) emptyQueue) (row (car 32768) ∷ row (setRight 32775 1) ∷ row (up 0 1) ∷ [])
 
 -- a later number in the place of the first "no"
 abbrev pub order-entries : List Entry
@@ -164,7 +164,7 @@ order-entries =
     ∷ refuses busy (row (cons 3 0)) 4 (7 ∷ [])
     ∷ refuses (lent alone emptyQueue) (row (cons 2 0)) 4 (8 ∷ [])
     ∷ refuses quiet (row (setLeft 0 2)) 5 (6 ∷ [])
-    ∷ refuses busy (row (car 0)) 5 (7 ∷ [])
+    ∷ refuses busy (row (car 32768)) 5 (7 ∷ [])
     ∷ refuses busy (row (car 2)) 6 (7 ∷ [])
     ∷ refuses (lent alone emptyQueue) (row (cons 1 1)) 6 (8 ∷ [])
     ∷ refuses (lent ring emptyQueue) (row (car 2)) 6 (9 ∷ [])
@@ -200,6 +200,25 @@ row-entries =
     ∷ gives (lent pairs emptyQueue) (row (up 2 3)) (value 0) (lent pairs (only (packet 4 2 3 0)))
     ∷ gives (lent pairs emptyQueue) (row (down 2 3)) (value 0) (lent pairs (only (packet 5 2 3 0)))
     ∷ []
+
+-- reads of nil that give nil and change nothing
+abbrev nil-calls : List Call
+nil-calls = row (car 0) ∷ row (cdr 0) ∷ []
+
+abbrev nil-given : Store → List Entry
+nil-given s = map (λ call. gives s call (value 0) s) nil-calls
+
+abbrev pub nil-entries : List Entry
+nil-entries =
+    -- another word replied, a hold asked for, or a packet queued;
+    nil-given quiet
+    -- an empty slot asked for;
+    ++ nil-given busy
+    -- a sound store asked for, without packets and with a full queue;
+    ++ nil-given (lent (set held 7 2) emptyQueue)
+    ++ nil-given (lent (set held 7 2) full)
+    -- question 1 not asked
+    ++ refusals 1 [] outside nil-calls
 
 -- fresh with another chain, a queue that is not empty, or words past the cells written
 abbrev pub fresh-entries : List Entry
@@ -278,12 +297,15 @@ pub record WrongAnswers : Type 0 where
   -- for any store and call where the papers decide
   pub first-no : (s : Store) (call : Call) (n : ℕ) (ns : List ℕ) → Decided s call → noes (questions s call) ≡ suc n ∷ ns
       → OnlyAnswer s call (refused (suc n)) s
+  -- for any read of nil, on any store that passes question 1
+  pub nil-reads : (s : Store) (r : RowCall) → readsNil r ≡ true → inRange (s .table) (s .queue) ≡ true → OnlyAnswer s (row r) (value 0) s
   pub range : AllOnly range-entries
   pub skipped : AllOnly skipped-entries
   pub damaged : AllOnly damaged-entries
   pub pointers : AllOnly pointer-entries
   pub order : AllOnly order-entries
   pub rows : AllOnly row-entries
+  pub nils : AllOnly nil-entries
   pub freshes : AllOnly fresh-entries
   pub steps : AllOnly step-entries
   pub place-63 : AllOnly ring-entries

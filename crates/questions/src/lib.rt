@@ -6,6 +6,7 @@ use machine::MOST_CELLS;
 use machine::Queue;
 use machine::Refusal;
 use machine::RootCount;
+use machine::RowCall;
 ghost use mathlib.Core.Path.{_≡_};
 ghost use Prim.Native.Nat.{_≤_};
 ghost use lib.ListN.{length};
@@ -13,9 +14,9 @@ ghost use Rattle.machine.specs.Words.{isCell, isLegal};
 ghost use Rattle.machine.specs.declared.Queue.{Queue};
 ghost use Rattle.machine.specs.Table.{header};
 ghost use Rattle.machine.specs.Queue.{placed};
-ghost use Rattle.machine.specs.Calls.{step, store};
+ghost use Rattle.machine.specs.Calls.{step, store, readsNil};
 ghost use Rattle.machine.specs.Questions.{firstNo, early, inRange, longEnough, scratchEnough, cellsInRange, numberInRange, slotEmpty};
-ghost use Rattle.machine.specs.Answers.{askedNumber};
+ghost use Rattle.machine.specs.Answers.{askedNumber, callOf};
 
 // Of c cells.
 pub fn is_cell(c: u16, w: u16) -> bool
@@ -37,6 +38,17 @@ pub fn is_legal(c: u16, w: u16) -> bool
         return true;
     }
     FIRST_ATOM <= w
+}
+
+// A read of nil, of which only questions 1 and 4 are asked.
+pub fn reads_nil(call: RowCall) -> bool
+    ensures { λ r. ⌜ r ≡ readsNil (callOf call) ⌝ }
+{
+    match call {
+        RowCall::Car(x) => x == 0,
+        RowCall::Cdr(x) => x == 0,
+        _ => false,
+    }
 }
 
 // Question 3 of n.

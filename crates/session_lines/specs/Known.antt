@@ -22,7 +22,7 @@ case input output = record { input = text input; output = text output }
 abbrev more : List String → List String → Case
 more input output = case ("fresh 3" ∷ "cons 0 32775" ∷ input) ("1 OK 0" ∷ "2 OK 1" ∷ output)
 
--- K1; K2 and K3; K4 to K11; and lines that are no calls
+-- K1; K2 and K3; K4 to K11, the last as document 02 (A1) has it; reads of nil before and after a fresh; and lines that are no calls
 abbrev pub cases : List Case
 cases =
     case
@@ -36,7 +36,8 @@ cases =
     ∷ more ("cons 4 0" ∷ []) ("3 NO 4" ∷ [])
     ∷ more ("car 32775" ∷ []) ("3 NO 5" ∷ [])
     ∷ more ("cdr 1" ∷ "step" ∷ "step" ∷ []) ("3 OK 32775" ∷ "4 OK 0" ∷ "5 OK 1" ∷ [])
-    ∷ more ("car 0" ∷ []) ("3 NO 5" ∷ [])
+    ∷ more ("car 0" ∷ []) ("3 OK 0" ∷ [])
+    ∷ case ("cdr 0" ∷ "fresh 1" ∷ "car 0" ∷ "cdr 0" ∷ "up 0 1" ∷ "step" ∷ []) ("1 NO 1" ∷ "2 OK 0" ∷ "3 OK 0" ∷ "4 OK 0" ∷ "5 NO 5" ∷ "6 IDLE" ∷ [])
     ∷ case ("step" ∷ "" ∷ "audit" ∷ "fresh 03" ∷ "fresh  3" ∷ "fresh 3 " ∷ "fresh 65536" ∷ []) ("1 NO 1" ∷ "2 BAD" ∷ "3 BAD" ∷ "4 BAD" ∷ "5 BAD" ∷ "6 BAD" ∷ "7 BAD" ∷ [])
     ∷ []
 

@@ -19,6 +19,7 @@ use Rattle.machine.specs.Promise.{Decided, Promise}
 use Rattle.machine.proofs.Range.{and-first, and-second}
 use Rattle.machine.proofs.Ring.{arrays-appended, arrays-taken}
 use Rattle.machine.proofs.Kept.{machine-cases, early-yes, gives-machine}
+use Rattle.machine.proofs.NilReads.{row-cases}
 use Rattle.soundness.specs.Whole.{Whole}
 use Rattle.soundness.proofs.ZeroSlots.{arrays-empty}
 use Rattle.soundness.proofs.FreshSound.{fresh-sound}
@@ -54,7 +55,9 @@ pub accepted-whole : (s : Store) (call : Call) → Whole (s .table) (s .queue) �
     → Whole (accepted s call .after .table) (accepted s call .after .queue)
 unfolding accepted stepped audited
 accepted-whole s (fresh c) w h = fresh-whole s c h
-accepted-whole s (row r) w h = record { sound = row-sound s r (w .sound) (w .arrays) h; arrays = arrays-appended (s .queue) (packetOf (s .table) r) (w .arrays) }
+accepted-whole s (row r) w h =
+    row-cases s r (λ o. Whole (o .after .table) (o .after .queue)) (λ _. w)
+    (λ n. record { sound = row-sound s r n (w .sound) (w .arrays) h; arrays = arrays-appended (s .queue) (packetOf (s .table) r) (w .arrays) })
 accepted-whole s step w h = step-whole s w (waiting (s .queue)) refl
 accepted-whole s audit w h = w
 
@@ -64,7 +67,7 @@ machine-whole s call w = machine-cases s call (λ o. Whole (o .after .table) (o 
 -- on a sound store all that a call gives is decided
 pub decided : (s : Store) (call : Call) → Sound (s .table) (s .queue) → Decided s call
 decided s (fresh c) h = tt
-decided s (row r) h = h
+decided s (row r) h = inl h
 decided s step h = inl h
 decided s audit h = tt
 

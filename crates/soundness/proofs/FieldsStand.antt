@@ -9,12 +9,12 @@ use lib.Dec.{eqb}
 use borrow.Author.Tests.{eqb-true, eqb-false}
 use Rattle.machine.specs.declared.Queue.{Queue}
 use Rattle.machine.specs.Range.{matching}
-use Rattle.machine.specs.Words.{isCell}
+use Rattle.machine.specs.Words.{isNil, isCell}
 use Rattle.machine.specs.Table.{left, right, capacity, wordAt, putWord}
 use Rattle.machine.specs.Queue.{Packet, waiting}
 use Rattle.machine.specs.Packets.{kindOf, usesOf, uses, changes}
 use Rattle.machine.specs.Calls.{Call, fresh, row, step, audit, RowCall, car, cdr, cons, setLeft, setRight, up, down}
-use Rattle.machine.specs.Calls.{Reply, refused, Store, store, field, packetOf, written, valueOf, freshTable}
+use Rattle.machine.specs.Calls.{Reply, refused, Store, store, field, packetOf, readsNil, written, wordRead, valueOf, freshTable}
 use Rattle.machine.specs.Step.{applyChanges, stepWith, stepFrom, stepped}
 use Rattle.machine.specs.Questions.{firstNo, xIsCell, earlyRow, askFree, questions}
 use Rattle.machine.specs.Audit.{audited}
@@ -25,6 +25,7 @@ use Rattle.machine.proofs.Range.{not-both, matching-same}
 use Rattle.machine.proofs.Words.{cell-index, cell-number}
 use Rattle.machine.proofs.Table.{Inside, room, word-same, word-other, capacity-putWord}
 use Rattle.machine.proofs.Kept.{machine-cases, gives-machine}
+use Rattle.machine.proofs.NilReads.{nil-cases, read-cell, row-cases}
 use Rattle.soundness.specs.Demand3.{Link, Joined, Begun, tableAfter, answers}
 use Rattle.soundness.specs.Reliable.{Fields, fields, puts, put, fieldsFrom, fieldsAfter, FieldsStand, RepliesField}
 use Rattle.soundness.specs.Whole.{Whole}
@@ -125,9 +126,9 @@ module _ (t : List ℕ) (q : Queue) (f : Facts t (waiting q)) (g : ℕ → Field
   itself x c = matching-same x (suc (pred x)) 1 (cell-number (capacity t) x c)
 
   pub row-replies : (r : RowCall) → RowYes t q r → RepliesField g r (valueOf t r)
-  unfolding valueOf field earlyRow xIsCell packetOf uses usesOf kindOf
-  row-replies (car x) a = let c = a .early .1 .0 in named-has (car x) a x c (omega (arith, itself x c)) .0
-  row-replies (cdr x) a = let c = a .early .1 .0 in named-has (cdr x) a x c (omega (arith, itself x c)) .1
+  unfolding valueOf wordRead field earlyRow readsNil xIsCell packetOf uses usesOf kindOf
+  row-replies (car x) a = let c = read-cell t x (a .queues) (a .early .1) in rw (a .queues) (named-has (car x) a x c (omega (arith, itself x c)) .0)
+  row-replies (cdr x) a = let c = read-cell t x (a .queues) (a .early .1) in rw (a .queues) (named-has (cdr x) a x c (omega (arith, itself x c)) .1)
   row-replies (cons x y) a = tt
   row-replies (setLeft x y) a = let c = a .early .1 .0 in named-has (setLeft x y) a x c (omega (arith, itself x c)) .0
   row-replies (setRight x y) a = let c = a .early .1 .0 in named-has (setRight x y) a x c (omega (arith, itself x c)) .1
@@ -155,12 +156,22 @@ stepped-put s g w h (p ∷ ps) e = step-put (s .table) p ps (rw e at (sound-fact
 fresh-put : (s : Store) (c : ℕ) (g : ℕ → Fields) → firstNo (questions s (fresh c)) ≡ 0 → FieldsStand (freshTable c (s .table)) g
 fresh-put s c g e i l u = absurd (not-both u (fresh-unused c (s .table) (fresh-yes s c e .room) i l))
 
+nil-put : (t : List ℕ) (r : RowCall) → readsNil r ≡ true → (g : ℕ → Fields) → FieldsStand t g → FieldsStand t (λ c. puts r 0 c (g c))
+unfolding puts
+nil-put t r e g h = nil-cases r e (λ k. FieldsStand t (λ c. puts k 0 c (g c))) h h
+
+pub nil-replies : (r : RowCall) → readsNil r ≡ true → (g : ℕ → Fields) → RepliesField g r 0
+unfolding isNil
+nil-replies r e g = nil-cases r e (λ k. RepliesField g k 0) refl refl
+
 -- every call of the machine, and whoever keeps the promise, puts what the answer tells
 accepted-put : (s : Store) (call : Call) (g : ℕ → Fields) → Whole (s .table) (s .queue) → FieldsStand (s .table) g → firstNo (questions s call) ≡ 0
     → FieldsStand (accepted s call .after .table) (λ c. put c call (accepted s call .reply) (g c))
 unfolding put accepted stepped audited
 accepted-put s (fresh c) g w h e = fresh-put s c g e
-accepted-put s (row r) g w h e = row-put (s .table) (s .queue) (sound-facts (s .table) (s .queue) (w .sound)) g h r (row-yes s r (w .arrays) e)
+accepted-put s (row r) g w h e =
+    row-cases s r (λ o. FieldsStand (o .after .table) (λ c. put c (row r) (o .reply) (g c))) (λ n. nil-put (s .table) r n g h)
+    (λ n. row-put (s .table) (s .queue) (sound-facts (s .table) (s .queue) (w .sound)) g h r (row-yes s r n (w .arrays) e))
 accepted-put s step g w h e = stepped-put s g w h (waiting (s .queue)) refl
 accepted-put s audit g w h e = h
 

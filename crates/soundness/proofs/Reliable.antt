@@ -1,6 +1,6 @@
 -- What a row programmer can rely on follows from the facts that demand 3 carries, and from the fields.
-use mathlib.Core.Path.{_≡_, refl, sym, ap, _∙_}
-use mathlib.Core.Logic.{_↔_, ⊎-elim}
+use mathlib.Core.Path.{_≡_, refl, sym, ap, ap₂, subst, _∙_}
+use mathlib.Core.Logic.{_↔_, inl, ⊎-elim}
 use mathlib.Core.Bool.{true}
 use mathlib.Core.List.{List, [], _∷_}
 use Prim.Native.Nat.{ℕ, suc, _+_, _-_, _≤_, _<_}
@@ -13,7 +13,7 @@ use Rattle.machine.specs.Queue.{Packet, putSlot, taken, packetsFrom, waiting}
 use Rattle.machine.specs.Packets.{root, plus, minus, waitingChange}
 use Rattle.machine.specs.Counts.{heldAtLeast}
 use Rattle.machine.specs.Reached.{pointsTo, begun, onward, ReachedFrom}
-use Rattle.machine.specs.Calls.{row, step, cons, Reply, value, refused, Store, store, packetOf, valueOf}
+use Rattle.machine.specs.Calls.{row, step, cons, Reply, value, refused, Store, store, packetOf, readsNil, valueOf}
 use Rattle.machine.specs.Step.{stepWith, stepFrom, stepped}
 use Rattle.machine.specs.Questions.{firstNo, scratchEnough, cellFree, earlyRow, early, askFree, lateRow, late, questions}
 use Rattle.machine.specs.Audit.{Sound}
@@ -24,20 +24,24 @@ use Rattle.machine.proofs.Table.{not-in-use-free}
 use Rattle.machine.proofs.Ring.{length-waiting}
 use Rattle.machine.proofs.Questions.{firstNo-zero, firstNo-other}
 use Rattle.machine.proofs.Kept.{machine-accepted, machine-cases, gives-machine}
-use Rattle.soundness.specs.Demand3.{Link, Joined, tableAfter, queueAfter, Holds, moved, holdsAfter, Held}
-use Rattle.soundness.specs.Reliable.{Fields, put, fieldsAfter, FieldsStand, Steps, ReadsBack, NewIsFree, HeldByHolds, Drains, FullOfHeld, Relied, Reliable}
+use Rattle.machine.proofs.NilReads.{only-nil, row-cases}
+use Rattle.soundness.specs.Demand3.{Link, Joined, tableAfter, queueAfter, Holds, holds, moved, holdsAfter, Held}
+use Rattle.soundness.specs.Reliable.{Fields, put, fieldsAfter, FieldsStand, RepliesField, Steps, ReadsBack, EndsInNil, NewIsFree, HeldByHolds, Drains, FullOfHeld, Relied, Reliable}
 use Rattle.soundness.proofs.Facts.{sound-facts}
 use Rattle.soundness.proofs.FreeChain.{chain-some}
 use Rattle.soundness.proofs.RowQuestions.{row-yes}
 use Rattle.soundness.proofs.Cons.{was-free}
 use Rattle.soundness.proofs.RowWrites.{cons-case}
 use Rattle.soundness.proofs.CallSound.{decided, value-accepted}
-use Rattle.soundness.proofs.RootsAreHolds.{Agrees}
+use Rattle.soundness.proofs.RootsAreHolds.{Agrees, nil-moves}
 use Rattle.soundness.proofs.Theorem.{promise-agrees, from-held, exact-when-done, covered}
-use Rattle.soundness.proofs.FieldsStand.{row-replies, promise-put, fields-stand}
+use Rattle.soundness.proofs.FieldsStand.{row-replies, nil-replies, promise-put, fields-stand}
 
 same-value : (m n : ℕ) → value m ≡ value n → m ≡ n
 same-value m n e = cc
+
+same-holds : (h : Holds) → holds (h .gained + 0) (h .given + 0) ≡ h
+same-holds h = ap₂ holds (omega arith) (omega arith)
 
 -- one step with enough scratch takes one packet, if any waits
 module _ (t : List ℕ) (q : Queue) (s : List ℕ) (h : Sound t q) (enough : scratchWords (capacity t) ≤ length s) where
@@ -104,19 +108,25 @@ held-reach t q u v h g a b f d c j k (onward {j = n} {i = i} r l e) =
 
 module _ (t : List ℕ) (q : Queue) (h : ℕ → Holds) (g : ℕ → Fields) (a : Agrees t q h) (f : FieldsStand t g) where
   reads-back : ReadsBack t q h g
-  unfolding accepted
   reads-back s r w after p =
-      let y = value-accepted (store t q s) (row r) w after (a .whole .sound) p in
-      let e : valueOf t r ≡ w = same-value (valueOf t r) w (y .reply) in
-      rw e at (row-replies t q (sound-facts t q (a .whole .sound)) g f r (row-yes (store t q s) r (a .whole .arrays) (y .asked)))
+      let y = value-accepted (store t q s) (row r) w after (inl (a .whole .sound)) p in
+      row-cases (store t q s) r (λ o. o .reply ≡ value w → RepliesField g r w) (λ n e. subst (RepliesField g r) (same-value 0 w e) (nil-replies r n g))
+      (λ n e. subst (RepliesField g r) (same-value (valueOf t r) w e)
+      (row-replies t q (sound-facts t q (a .whole .sound)) g f r (row-yes (store t q s) r n (a .whole .arrays) (y .asked)))) (y .reply)
+
+  ends-in-nil : EndsInNil t q h g
+  unfolding moved
+  ends-in-nil s r reply after n p =
+      let o = only-nil r n (store t q s) (a .whole .sound .shape) reply after p in
+      (o .0, o .1, λ i. rw (o .0, nil-moves r n i .0, nil-moves r n i .1) (same-holds (h (suc i))))
 
   new-is-free : NewIsFree t q h g
-  unfolding accepted valueOf packetOf askFree
+  unfolding accepted readsNil valueOf packetOf askFree
   new-is-free s x y w after p =
-      let k = value-accepted (store t q s) (row (cons x y)) w after (a .whole .sound) p in
+      let k = value-accepted (store t q s) (row (cons x y)) w after (inl (a .whole .sound)) p in
       let e : firstFree t ≡ w = same-value (firstFree t) w (k .reply) in
       let c = sound-facts t q (a .whole .sound) in
-      let z = row-yes (store t q s) (cons x y) (a .whole .arrays) (k .asked) .free .0 in
+      let z = row-yes (store t q s) (cons x y) refl (a .whole .arrays) (k .asked) .free .0 in
       rw e at (cons-case t (c .free) (c .chain) (chain-some t (c .free) (c .chain) z) x y
       (λ u m. (i : ℕ) × (m .c ≡ suc i) × (i < capacity t) × (isFree t i ≡ true))
       (λ new rest d. (new, refl, d .linked .1, not-in-use-free t new (was-free t (waiting q) c new rest d x y))))
@@ -151,7 +161,7 @@ module _ (t : List ℕ) (q : Queue) (h : ℕ → Holds) (g : ℕ → Fields) (a 
 
   -- only question 8 has the number 8
   cells-used : (s : List ℕ) (x y : ℕ) → machine (store t q s) (row (cons x y)) .reply ≡ refused 8 → cellFree t ≡ true → ⊥
-  unfolding accepted questions early earlyRow late lateRow askFree
+  unfolding accepted questions early earlyRow late lateRow readsNil askFree
   cells-used s x y r free = machine-cases (store t q s) (row (cons x y)) (λ o. o .reply ≡ refused 8 → ⊥) (λ _. no-value)
       (λ n e d. firstNo-other 7 (questions (store t q s) (row (cons x y))) (
         (λ e. absurd (omega arith)),
@@ -177,11 +187,19 @@ module _ (t : List ℕ) (q : Queue) (h : ℕ → Holds) (g : ℕ → Fields) (a 
   unfolding cellFree
   full-of-held z s x y after p i l =
       exact-when-done t q h a z i l .0
-      (⊎-elim (λ u. u) (λ u. absurd (cells-used s x y (sym (gives-machine (store t q s) (row (cons x y)) (refused 8) after (p .exact (a .whole .sound)) .0))
+      (⊎-elim (λ u. u) (λ u. absurd (cells-used s x y (sym (gives-machine (store t q s) (row (cons x y)) (refused 8) after (p .exact (inl (a .whole .sound))) .0))
       (exists-some (capacity t) (isFree t) i l (not-in-use-free t i u)))) (tested (inUse t i)))
 
   relied : Relied t q h g
-  relied = record { fields-stand = f; reads-back = reads-back; new-is-free = new-is-free; held-by-holds = held-by-holds; drains = drains; full-of-held = full-of-held }
+  relied = record {
+    fields-stand = f;
+    reads-back = reads-back;
+    ends-in-nil = ends-in-nil;
+    new-is-free = new-is-free;
+    held-by-holds = held-by-holds;
+    drains = drains;
+    full-of-held = full-of-held;
+  }
 
 pub reliable : Reliable
 reliable t q ls b j = relied (tableAfter t ls) (queueAfter q ls) (holdsAfter ls) (fieldsAfter ls) (covered t q ls b j) (fields-stand t q ls b j)

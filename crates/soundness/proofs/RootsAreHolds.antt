@@ -1,21 +1,25 @@
 -- Root counts with their waiting changes stay the holds: each row call tells what its packet lists, and a cons its new cell's 1.
 use mathlib.Core.Path.{_≡_, _∙_}
 use mathlib.Core.Logic.{⊎-elim}
+use mathlib.Core.Bool.{true, false}
 use mathlib.Core.List.{List, _∷_}
 use Prim.Native.Nat.{ℕ, suc, pred, _+_, _≤_, _<_}
 use native.Mathlib.Omega.{arith}
 use borrow.Author.Tests.{leb-true}
 use Rattle.machine.specs.declared.Queue.{Queue}
+use Rattle.machine.specs.Range.{matching}
 use Rattle.machine.specs.Table.{left, right, rootCount, capacity, wordAt}
 use Rattle.machine.specs.Queue.{Packet, emptyQueue, appended, taken, waiting}
 use Rattle.machine.specs.Packets.{kindOf, root, plus, minus, changesOf, changes, movedBy, usesOf, uses, waitingChange}
-use Rattle.machine.specs.Calls.{fresh, RowCall, car, cdr, cons, setLeft, setRight, up, down, row, Store, packetOf, written, valueOf, freshTable}
+use Rattle.machine.specs.Calls.{fresh, RowCall, car, cdr, cons, setLeft, setRight, up, down, row, Store, packetOf, readsNil, written, valueOf, freshTable}
 use Rattle.machine.specs.Step.{applyChanges}
 use Rattle.machine.specs.Questions.{firstNo, askFree, questions}
 use Rattle.machine.specs.Machine.{accepted}
 use Rattle.machine.proofs.Table.{word-other}
 use Rattle.machine.proofs.Ring.{arrays-appended, arrays-taken, waiting-appended}
+use Rattle.machine.proofs.Range.{matching-other}
 use Rattle.machine.proofs.Kept.{machine-accepted, kept}
+use Rattle.machine.proofs.NilReads.{nil-cases, word-read}
 use Rattle.machine.proofs.Replay.{replays-uses}
 use Rattle.soundness.specs.Demand3.{Holds, holds, gains, gives, NoneOwed, RootsAreHolds}
 use Rattle.soundness.specs.Whole.{Whole}
@@ -48,9 +52,9 @@ gives-uses t (down y n) x = omega arith
 row-moves : (t : List ℕ) (q : Queue) (f : Facts t (waiting q)) (r : RowCall) → RowYes t q r → (i : ℕ) → i < capacity t
     → wordAt (written t r) i rootCount + moves root plus (packetOf t r) (suc i) + gives r (suc i)
     ≡ wordAt t i rootCount + gains r (valueOf t r) (suc i) + moves root minus (packetOf t r) (suc i)
-unfolding gains gives packetOf valueOf changes changesOf movedBy kindOf askFree
-row-moves t q f (car x) y i l = unfold written in omega arith
-row-moves t q f (cdr x) y i l = unfold written in omega arith
+unfolding gains gives packetOf readsNil valueOf changes changesOf movedBy kindOf askFree
+row-moves t q f (car x) y i l = unfold written in rw (word-read t x (y .queues) left) (omega arith)
+row-moves t q f (cdr x) y i l = unfold written in rw (word-read t x (y .queues) right) (omega arith)
 row-moves t q f (cons x z) y i l = omega (arith, cons-root t (waiting q) f x z i (y .free .0) l)
 row-moves t q f (setLeft x z) y i l = unfold written in omega (arith, word-other t (pred x) left z i rootCount (omega arith) (omega arith) (λ _ e. omega arith))
 row-moves t q f (setRight x z) y i l = unfold written in omega (arith, word-other t (pred x) right z i rootCount (omega arith) (omega arith) (λ _ e. omega arith))
@@ -71,12 +75,28 @@ fresh-agrees s c e = record {
   owed = λ i l. omega arith;
 }
 
-pub row-agrees : (s : Store) (r : RowCall) (h : ℕ → Holds) → Agrees (s .table) (s .queue) h → firstNo (questions s (row r)) ≡ 0
+-- a read of nil moves no hold
+pub nil-moves : (r : RowCall) → readsNil r ≡ true → (i : ℕ) → (gains r 0 (suc i) ≡ 0) × (gives r (suc i) ≡ 0)
+unfolding gains gives
+nil-moves r e i = nil-cases r e (λ k. (gains k 0 (suc i) ≡ 0) × (gives k (suc i) ≡ 0)) (none, none) (none, none)
+  where
+    none : matching 0 (suc i) 1 ≡ 0
+    none = matching-other 0 (suc i) 1 (λ d. omega arith)
+
+pub nil-agrees : (t : List ℕ) (q : Queue) (r : RowCall) (h : ℕ → Holds) → readsNil r ≡ true → Agrees t q h
+    → Agrees t q (λ x. holds (h x .gained + gains r 0 x) (h x .given + gives r x))
+nil-agrees t q r h e a = record {
+  whole = a .whole;
+  roots = λ i l. omega (arith, a .roots i l, nil-moves r e i .0, nil-moves r e i .1);
+  owed = λ i l. omega (arith, a .owed i l, nil-moves r e i .0, nil-moves r e i .1);
+}
+
+pub row-agrees : (s : Store) (r : RowCall) (h : ℕ → Holds) → readsNil r ≡ false → Agrees (s .table) (s .queue) h → firstNo (questions s (row r)) ≡ 0
     → Agrees (written (s .table) r) (appended (s .queue) (packetOf (s .table) r))
     (λ x. holds (h x .gained + gains r (valueOf (s .table) r) x) (h x .given + gives r x))
 unfolding accepted
-row-agrees s r h a e = record {
-  whole = record { sound = row-sound s r (w .sound) (w .arrays) e; arrays = arrays-appended q p (w .arrays) };
+row-agrees s r h n a e = record {
+  whole = record { sound = row-sound s r n (w .sound) (w .arrays) e; arrays = arrays-appended q p (w .arrays) };
   roots = rw (waiting-appended q p (w .arrays) (y .slot), same) (λ (i : ℕ) (l : i < capacity t).
       omega (arith, a .roots i l, row-moves t q f r y i l, waiting-snoc root plus (suc i) (waiting q) p, waiting-snoc root minus (suc i) (waiting q) p));
   owed = rw same (λ (i : ℕ) (l : i < capacity t).
@@ -97,7 +117,7 @@ row-agrees s r h a e = record {
     w = a .whole
 
     y : RowYes t q r
-    y = row-yes s r (w .arrays) e
+    y = row-yes s r n (w .arrays) e
 
     f : Facts t (waiting q)
     f = sound-facts t q (w .sound)

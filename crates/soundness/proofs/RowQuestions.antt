@@ -1,7 +1,7 @@
--- What the questions give where a row call is accepted.
-use mathlib.Core.Path.{_≡_, sym, _∙_}
+-- What the questions give where a row call that queues a packet is accepted.
+use mathlib.Core.Path.{_≡_, sym, ap, _∙_}
 use mathlib.Core.Logic.{inl, inr, ⊎-elim}
-use mathlib.Core.Bool.{true, _||_}
+use mathlib.Core.Bool.{true, false, _||_}
 use mathlib.Core.List.{List, [], _∷_, _++_}
 use Prim.Native.Nat.{ℕ, suc, _+_, _≤_, _<_}
 use native.Mathlib.Omega.{arith}
@@ -13,13 +13,14 @@ use Rattle.machine.specs.Table.{rootCount, capacity, wordAt}
 use Rattle.machine.specs.Queue.{Arrays, Packet, slots, appended, waiting}
 use Rattle.machine.specs.Packets.{root, plus, minus, uses, waitingChange}
 use Rattle.machine.specs.Counts.{heldAtLeast, heldAtMost}
-use Rattle.machine.specs.Calls.{RowCall, car, cdr, cons, setLeft, setRight, up, down, row, Store, packetOf, written}
-use Rattle.machine.specs.Questions.{Question, firstNo, heldEnough, slotEmpty, heldWithin, pointersWithin, earlyRow, early, askFree, lateRow, late, questions}
+use Rattle.machine.specs.Calls.{RowCall, car, cdr, cons, setLeft, setRight, up, down, row, Store, packetOf, readsNil, written}
+use Rattle.machine.specs.Questions.{Question, firstNo, heldEnough, slotEmpty, heldWithin, pointersWithin, earlyRow, early, askFree, lateQueued, late, questions}
 use Rattle.machine.proofs.Range.{or-true, every-at, every-all}
 use Rattle.machine.proofs.Ring.{waiting-appended}
 use Rattle.machine.proofs.Undo.{within-is}
 use Rattle.machine.proofs.Questions.{Numbered, AllYes, firstNo-none, firstNo-all, firstNo-zero, early-numbered}
 use Rattle.machine.proofs.Kept.{early-yes}
+use Rattle.machine.proofs.NilReads.{late-queued}
 use Rattle.soundness.proofs.Views.{shown, WithinView, pointers-seen}
 use Rattle.soundness.proofs.NewPacket.{HeldFor}
 
@@ -30,15 +31,16 @@ pub record Passed (t u : List ℕ) (ps : List Packet) (p : Packet) : Type 0 wher
       → wordAt u i rootCount + waitingChange root plus (suc i) (ps ++ (p ∷ [])) ≤ ceiling + waitingChange root minus (suc i) (ps ++ (p ∷ []))
   pub within : WithinView (capacity u) (shown u)
 
--- all questions of a row call
+-- all questions of a row call, which is no read of nil
 pub record RowYes (t : List ℕ) (q : Queue) (r : RowCall) : Type 0 where
+  pub queues : readsNil r ≡ false
   pub early : AllYes (earlyRow t r)
   pub slot : q .count < slots
   pub free : AllYes (askFree t r)
   pub passed : Passed t (written t r) (waiting q) (packetOf t r)
 
-late-numbered : (t : List ℕ) (q : Queue) (r : RowCall) → Numbered (lateRow t q r)
-unfolding lateRow askFree
+late-numbered : (t : List ℕ) (q : Queue) (r : RowCall) → Numbered (lateQueued t q r)
+unfolding askFree
 late-numbered t q (car x) = (omega arith, (omega arith, (omega arith, (omega arith, tt))))
 late-numbered t q (cdr x) = (omega arith, (omega arith, (omega arith, (omega arith, tt))))
 late-numbered t q (cons x y) = (omega arith, (omega arith, (omega arith, (omega arith, (omega arith, tt)))))
@@ -55,11 +57,12 @@ yes-second : (ks ls : List Question) → AllYes (ks ++ ls) → AllYes ls
 yes-second [] ls h = h
 yes-second (k ∷ ks) ls h = yes-second ks ls (h .1)
 
-late-yes : (s : Store) (r : RowCall) → firstNo (questions s (row r)) ≡ 0 → AllYes (lateRow (s .table) (s .queue) r)
+late-yes : (s : Store) (r : RowCall) → readsNil r ≡ false → firstNo (questions s (row r)) ≡ 0 → AllYes (lateQueued (s .table) (s .queue) r)
 unfolding questions late
-late-yes s r h =
-    firstNo-all (lateRow (s .table) (s .queue) r) (late-numbered (s .table) (s .queue) r)
-    (sym (firstNo-none (early s (row r)) (late s (row r)) (early-numbered s (row r)) (firstNo-zero (early s (row r)) (early-yes s (row r) h))) ∙ h)
+late-yes s r n h =
+    firstNo-all (lateQueued (s .table) (s .queue) r) (late-numbered (s .table) (s .queue) r)
+    (sym (firstNo-none (early s (row r)) (late s (row r)) (early-numbered s (row r)) (firstNo-zero (early s (row r)) (early-yes s (row r) h))
+    ∙ ap firstNo (late-queued (s .table) (s .queue) r n)) ∙ h)
 
 pub held-test : (t : List ℕ) (ps : List Packet) (p : Packet) → heldEnough t ps p ≡ true → HeldFor t ps p
 unfolding heldEnough heldAtLeast
@@ -84,16 +87,17 @@ most-all t ps h = every-all (capacity t) (λ j. heldAtMost t ps j ceiling) (λ i
 within-test : (u : List ℕ) → pointersWithin u ≡ true → WithinView (capacity u) (shown u)
 within-test u h i l = omega (arith, within-is u .0 h i l, pointers-seen u i)
 
-pub row-yes : (s : Store) (r : RowCall) → Arrays (s .queue) → firstNo (questions s (row r)) ≡ 0 → RowYes (s .table) (s .queue) r
-unfolding lateRow slotEmpty early
-row-yes s r a h =
+pub row-yes : (s : Store) (r : RowCall) → readsNil r ≡ false → Arrays (s .queue) → firstNo (questions s (row r)) ≡ 0 → RowYes (s .table) (s .queue) r
+unfolding slotEmpty early
+row-yes s r n a h =
     let t = s .table in
     let q = s .queue in
     let p = packetOf t r in
-    let y = late-yes s r h in
+    let y = late-yes s r n h in
     let slot : q .count < slots = ltb-true (q .count) slots (y .1 .0) in
     let e = yes-second (askFree t r) _ (y .1 .1) in
     record {
+      queues = n;
       early = early-yes s (row r) h .1;
       slot = slot;
       free = yes-first (askFree t r) _ (y .1 .1);

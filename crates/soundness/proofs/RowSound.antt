@@ -1,6 +1,6 @@
--- Every accepted row call on a sound store leaves a sound store.
+-- Every accepted row call that queues a packet leaves a sound store sound.
 use mathlib.Core.Path.{_≡_, refl}
-use mathlib.Core.Bool.{true}
+use mathlib.Core.Bool.{true, false}
 use mathlib.Core.List.{List, [], _∷_, _++_}
 use Prim.Native.Nat.{ℕ, pred, _≤_}
 use native.Mathlib.Omega.{arith}
@@ -8,10 +8,11 @@ use Rattle.machine.specs.declared.Queue.{Queue}
 use Rattle.machine.specs.Table.{left, right, wordAt, putWord}
 use Rattle.machine.specs.Queue.{Arrays, Packet, packet, appended, waiting}
 use Rattle.machine.specs.Packets.{replaces, kindOf}
-use Rattle.machine.specs.Calls.{RowCall, car, cdr, cons, setLeft, setRight, up, down, row, Store, field, packetOf, written}
+use Rattle.machine.specs.Calls.{RowCall, car, cdr, cons, setLeft, setRight, up, down, row, Store, field, packetOf, readsNil, written}
 use Rattle.machine.specs.Questions.{firstNo, wordsLegal, xIsCell, earlyRow, askFree, questions}
 use Rattle.machine.specs.Audit.{Sound}
 use Rattle.machine.proofs.Ring.{waiting-appended}
+use Rattle.machine.proofs.NilReads.{read-cell}
 use Rattle.soundness.proofs.Facts.{Facts, Live, slots-of, sound-facts, sound-live, facts-sound}
 use Rattle.soundness.proofs.ZeroSlots.{slots-appended}
 use Rattle.soundness.proofs.FreeChain.{chain-some}
@@ -50,10 +51,11 @@ module _ (t : List ℕ) (q : Queue) (f : Facts t (waiting q)) (live : Live t (wa
   }
 
   row-kept : (r : RowCall) → RowYes t q r → Kept (written t r) (ps ++ (packetOf t r ∷ []))
-  unfolding earlyRow written packetOf field xIsCell kindOf
-  row-kept (car x) a = record { facts = read-facts t ps f x (a .early .1 .0) left (omega arith) (a .passed); live = unwritten-live t ps f (packetOf t (car x)) live }
+  unfolding earlyRow readsNil written packetOf field xIsCell kindOf
+  row-kept (car x) a =
+      record { facts = read-facts t ps f x (read-cell t x (a .queues) (a .early .1)) left (omega arith) (a .passed); live = unwritten-live t ps f (packetOf t (car x)) live }
   row-kept (cdr x) a =
-      record { facts = read-facts t ps f x (a .early .1 .0) right (omega arith) (a .passed); live = unwritten-live t ps f (packetOf t (cdr x)) live }
+      record { facts = read-facts t ps f x (read-cell t x (a .queues) (a .early .1)) right (omega arith) (a .passed); live = unwritten-live t ps f (packetOf t (cdr x)) live }
   row-kept (cons x y) a = cons-kept x y a
   row-kept (setLeft x y) a = replace-kept 3 left x y refl (omega arith) (a .early .1 .0) (a .early .0) (a .passed)
   row-kept (setRight x y) a = replace-kept 6 right x y refl (omega arith) (a .early .1 .0) (a .early .0) (a .passed)
@@ -61,12 +63,12 @@ module _ (t : List ℕ) (q : Queue) (f : Facts t (waiting q)) (live : Live t (wa
   row-kept (down x n) a =
       record { facts = down-facts t ps f x (a .early .1 .1 .0) n (a .early .0) (a .passed); live = unwritten-live t ps f (packetOf t (down x n)) live }
 
-pub row-sound : (s : Store) (r : RowCall) → Sound (s .table) (s .queue) → Arrays (s .queue) → firstNo (questions s (row r)) ≡ 0
+pub row-sound : (s : Store) (r : RowCall) → readsNil r ≡ false → Sound (s .table) (s .queue) → Arrays (s .queue) → firstNo (questions s (row r)) ≡ 0
     → Sound (written (s .table) r) (appended (s .queue) (packetOf (s .table) r))
-row-sound s r h a e =
+row-sound s r n h a e =
     let t = s .table in
     let q = s .queue in
-    let y = row-yes s r a e in
+    let y = row-yes s r n a e in
     let k = row-kept t q (sound-facts t q h) (sound-live t q h) r y in
     facts-sound (written t r) (appended q (packetOf t r)) (slots-appended q (packetOf t r) (y .slot) (slots-of t q h))
     (rw (waiting-appended q (packetOf t r) a (y .slot)) (k .facts)) (rw (waiting-appended q (packetOf t r) a (y .slot)) (k .live))

@@ -20,6 +20,7 @@ use Rattle.machine.specs.Machine.{accepted, machine}
 use Rattle.machine.specs.Promise.{Promise}
 use Rattle.machine.proofs.Range.{tested, or-true}
 use Rattle.machine.proofs.Kept.{machine-cases, gives-machine}
+use Rattle.machine.proofs.NilReads.{row-cases}
 use Rattle.machine.proofs.AuditedSound.{audited-sound}
 use Rattle.soundness.specs.Demand3.{Link, Joined, Begun, tableAfter, queueAfter, Holds, holds, moved, answers, holdsFrom, holdsAfter, Held, NoneLost, NoneLeft, ExactWhenDone, Clauses, Demand3}
 use Rattle.soundness.proofs.PacketKinds.{unnamed-waiting}
@@ -27,7 +28,7 @@ use Rattle.soundness.proofs.Facts.{Facts, sound-facts, sound-live}
 use Rattle.soundness.proofs.ReachedCells.{counted-used, pointed-used}
 use Rattle.soundness.proofs.CallSound.{decided, value-accepted}
 use Rattle.soundness.proofs.CodeTests.{pointers-counted}
-use Rattle.soundness.proofs.RootsAreHolds.{Agrees, fresh-agrees, row-agrees, step-agrees}
+use Rattle.soundness.proofs.RootsAreHolds.{Agrees, fresh-agrees, nil-agrees, row-agrees, step-agrees}
 
 -- the machine's own calls carry the facts on
 refused-agrees : (t : List ℕ) (q : Queue) (h : ℕ → Holds) (call : Call) (n : ℕ) → Agrees t q h → Agrees t q (λ x. moved x call (refused n) (h x))
@@ -47,7 +48,9 @@ accepted-agrees : (s : Store) (call : Call) (h : ℕ → Holds) → Agrees (s .t
     → Agrees (accepted s call .after .table) (accepted s call .after .queue) (λ x. moved x call (accepted s call .reply) (h x))
 unfolding moved accepted stepped audited
 accepted-agrees s (fresh c) h a e = fresh-agrees s c e
-accepted-agrees s (row r) h a e = row-agrees s r h a e
+accepted-agrees s (row r) h a e =
+    row-cases s r (λ o. Agrees (o .after .table) (o .after .queue) (λ x. moved x (row r) (o .reply) (h x))) (λ n. nil-agrees (s .table) (s .queue) r h n a)
+    (λ n. row-agrees s r h n a e)
 accepted-agrees s step h a e = stepped-agrees s h a (waiting (s .queue)) refl
 accepted-agrees s audit h a e = a
 

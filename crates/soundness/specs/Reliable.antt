@@ -7,14 +7,15 @@ use Prim.Native.Nat.{ℕ, suc, _+_, _≤_, _<_}
 use lib.Dec.{eqb}
 use lib.ListN.{length}
 use Rattle.machine.specs.declared.Queue.{Queue}
+use Rattle.machine.specs.Words.{isNil}
 use Rattle.machine.specs.Table.{left, right, capacity, scratchWords, wordAt, inUse, isFree}
 use Rattle.machine.specs.Queue.{waiting}
 use Rattle.machine.specs.Counts.{heldAtLeast}
 use Rattle.machine.specs.Reached.{ReachedFrom}
 use Rattle.machine.specs.Calls.{Call, fresh, row, step, audit, RowCall, car, cdr, cons, setLeft, setRight, up, down}
-use Rattle.machine.specs.Calls.{Reply, value, refused, idle, applied, sound, broken, Store, store}
+use Rattle.machine.specs.Calls.{Reply, value, refused, idle, applied, sound, broken, Store, store, readsNil}
 use Rattle.machine.specs.Promise.{Promise}
-use Rattle.soundness.specs.Demand3.{Link, Joined, Begun, tableAfter, queueAfter, Holds, Answered, answers, holdsAfter, Held}
+use Rattle.soundness.specs.Demand3.{Link, Joined, Begun, tableAfter, queueAfter, Holds, moved, Answered, answers, holdsAfter, Held}
 
 -- the words in the two fields of one cell
 pub record Fields : Type 0 where
@@ -58,10 +59,10 @@ fieldsAfter ls c = fieldsFrom (fields 0 0) (answers ls) c
 abbrev pub FieldsStand : List ℕ → (ℕ → Fields) → Type 0
 FieldsStand t f = (i : ℕ) → i < capacity t → inUse t i ≡ true → (wordAt t i left ≡ f (suc i) .left) × (wordAt t i right ≡ f (suc i) .right)
 
--- what a read replies, and a replace: the word that stood in the field
+-- what a read replies, of nil nil, and a replace: the word that stood in the field
 abbrev pub RepliesField : (ℕ → Fields) → RowCall → ℕ → Type 0
-RepliesField f (car x) w = w ≡ f x .left
-RepliesField f (cdr x) w = w ≡ f x .right
+RepliesField f (car x) w = w ≡ cond (isNil x) 0 (f x .left)
+RepliesField f (cdr x) w = w ≡ cond (isNil x) 0 (f x .right)
 RepliesField f (cons x y) w = Unit {0}
 RepliesField f (setLeft x y) w = w ≡ f x .left
 RepliesField f (setRight x y) w = w ≡ f x .right
@@ -78,6 +79,11 @@ module _ (t : List ℕ) (q : Queue) (h : ℕ → Holds) (f : ℕ → Fields) whe
   -- An accepted read or replace replies what was put into the field last, whatever was collected since.
   abbrev pub ReadsBack : Type 0
   ReadsBack = (s : List ℕ) (r : RowCall) (w : ℕ) (after : Store) → Promise (store t q s) (row r) (value w) after → RepliesField f r w
+
+  -- At the end of a list a read of nil replies nil, whatever waits and whatever is held, and leaves the store and every cell's holds as they were.
+  abbrev pub EndsInNil : Type 0
+  EndsInNil = (s : List ℕ) (r : RowCall) (reply : Reply) (after : Store) → readsNil r ≡ true → Promise (store t q s) (row r) reply after
+      → (reply ≡ value 0) × (after ≡ store t q s) × ((i : ℕ) → moved (suc i) (row r) reply (h (suc i)) ≡ h (suc i))
 
   -- The cell that an accepted cons replies was free: by demand 3 nobody could get to it.
   abbrev pub NewIsFree : Type 0
@@ -102,6 +108,7 @@ module _ (t : List ℕ) (q : Queue) (h : ℕ → Holds) (f : ℕ → Fields) whe
   pub record Relied : Type 0 where
     pub fields-stand : FieldsStand t f
     pub reads-back : ReadsBack
+    pub ends-in-nil : EndsInNil
     pub new-is-free : NewIsFree
     pub held-by-holds : HeldByHolds
     pub drains : Drains

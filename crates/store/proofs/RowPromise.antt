@@ -1,39 +1,45 @@
 -- What `calls` proves of a row call and of fresh is the promise.
 use mathlib.Core.Path.{_≡_, refl, sym, ap, ap₂, subst₂, _∙_}
-use mathlib.Core.Logic.{_⊎_, inl, inr, ⊎-elim}
-use mathlib.Core.Bool.{Bool, true}
-use mathlib.Core.List.{List, [], _∷_, _++_}
+use mathlib.Core.Logic.{⊎-elim}
+use mathlib.Core.Bool.{true}
+use mathlib.Core.List.{List, []}
 use Prim.Native.Nat.{ℕ, zero, suc}
 use native.Mathlib.Omega.{arith}
 use Rattle.machine.specs.declared.Queue.{Queue}
 use Rattle.machine.specs.declared.RowAnswer.{RowAnswer}
 use Rattle.machine.specs.declared.FreshAnswer.{FreshAnswer}
-use Rattle.machine.specs.Queue.{Arrays, appended}
+use Rattle.machine.specs.Queue.{Arrays}
 use Rattle.machine.specs.Packets.{kindOf, contains}
-use Rattle.machine.specs.Calls.{RowCall, car, cdr, cons, setLeft, setRight, up, down, Call, row, fresh, Reply, value, refused, Store, store, packetOf, written, valueOf}
-use Rattle.machine.specs.Step.{Outcome, outcome}
-use Rattle.machine.specs.Questions.{Question, ask, firstNo, early, askFree, lateRow, late, questions}
-use Rattle.machine.specs.Audit.{Sound}
+use Rattle.machine.specs.Calls.{RowCall, car, cdr, cons, setLeft, setRight, up, down, Call, row, fresh, Reply, value, refused, Store, store, packetOf, readsNil}
+use Rattle.machine.specs.Step.{Outcome}
+use Rattle.machine.specs.Questions.{firstNo, early, askFree, lateQueued, lateRow, late, questions}
 use Rattle.machine.specs.Machine.{accepted, answered, machine}
 use Rattle.machine.specs.Answers.{rowReply, freshReply}
-use Rattle.machine.specs.Promise.{Untouched, Bounded, numbers, Promise}
-use Rattle.machine.proofs.Questions.{Numbered, AllYes, firstNo-append, firstNo-none, firstNo-number, firstNo-all, early-numbered}
+use Rattle.machine.specs.Promise.{Decided, Untouched, numbers, Promise}
+use Rattle.machine.proofs.Range.{tested}
+use Rattle.machine.proofs.NilReads.{late-queued}
+use Rattle.machine.proofs.Questions.{AllYes, firstNo-append, firstNo-none, firstNo-number, firstNo-all, early-numbered}
 use Rattle.machine.proofs.Kept.{machine-accepted, machine-refused, kept, bounded-accepted, bounded-same}
-use Rattle.calls.specs.Tests.{freeByEnd, codeLate, codeQuestions}
-use Rattle.calls.specs.Called.{outcomeOf, RowCalled, FreshCalled}
-use Rattle.calls.proofs.RowLaws.{outcome-refused, outcome-done}
-use Rattle.store.proofs.RowTests.{questions-same}
+use Rattle.calls.specs.Tests.{freeByEnd, codeLate, codeLateRow, codeQuestions}
+use Rattle.calls.specs.Called.{RowCalled, FreshCalled}
+use Rattle.calls.proofs.RowLaws.{nil-late, code-nil, outcome-refused, outcome-done}
+use Rattle.store.proofs.RowTests.{queued-late, questions-same}
 
 -- the code's later questions carry the paper's numbers
-numbers-same : (t : List ℕ) (q : Queue) (r : RowCall) → numbers (codeLate t q (packetOf t r)) ≡ numbers (lateRow t q r)
-unfolding numbers codeLate lateRow freeByEnd askFree packetOf kindOf
-numbers-same t q (car x) = refl
-numbers-same t q (cdr x) = refl
-numbers-same t q (cons x y) = refl
-numbers-same t q (setLeft x y) = refl
-numbers-same t q (setRight x y) = refl
-numbers-same t q (up x n) = refl
-numbers-same t q (down x n) = refl
+queued-numbers : (t : List ℕ) (q : Queue) (r : RowCall) → numbers (codeLate t q (packetOf t r)) ≡ numbers (lateQueued t q r)
+unfolding numbers codeLate freeByEnd askFree packetOf kindOf
+queued-numbers t q (car x) = refl
+queued-numbers t q (cdr x) = refl
+queued-numbers t q (cons x y) = refl
+queued-numbers t q (setLeft x y) = refl
+queued-numbers t q (setRight x y) = refl
+queued-numbers t q (up x n) = refl
+queued-numbers t q (down x n) = refl
+
+numbers-same : (t : List ℕ) (q : Queue) (r : RowCall) → numbers (codeLateRow t q r) ≡ numbers (lateRow t q r)
+numbers-same t q r =
+    ⊎-elim (λ n. ap numbers (nil-late t q r n)) (λ n. ap numbers (queued-late t q r n) ∙ queued-numbers t q r ∙ sym (ap numbers (late-queued t q r n)))
+    (tested (readsNil r))
 
 module _ (t : List ℕ) (q : Queue) (r : RowCall) (a : RowAnswer) (t′ : List ℕ) (q′ : Queue) (h : RowCalled t q r a t′ q′) where
   abbrev s : Store
@@ -61,14 +67,14 @@ module _ (t : List ℕ) (q : Queue) (r : RowCall) (a : RowAnswer) (t′ : List �
 
   row-asked : (n : ℕ) → firstNo (early s (row r)) ≡ suc n → (rowReply a ≡ refused (suc n)) × (s′ ≡ s)
   unfolding codeQuestions
-  row-asked n e = refused-whole n (firstNo-append (early s (row r)) (codeLate t q (packetOf t r)) n e)
+  row-asked n e = refused-whole n (firstNo-append (early s (row r)) (codeLateRow t q r) n e)
 
   row-refusal : (n : ℕ) → firstNo (early s (row r)) ≡ 0 → rowReply a ≡ refused n → (contains (numbers (late s (row r))) n ≡ true) × (s′ ≡ s)
   unfolding codeQuestions late accepted
-  row-refusal n e k = go (firstNo (codeLate t q (packetOf t r))) refl
+  row-refusal n e k = go (firstNo (codeLateRow t q r)) refl
     where
-      whole : firstNo (codeQuestions t q r) ≡ firstNo (codeLate t q (packetOf t r))
-      whole = firstNo-none (early s (row r)) (codeLate t q (packetOf t r)) (early-numbered s (row r)) e
+      whole : firstNo (codeQuestions t q r) ≡ firstNo (codeLateRow t q r)
+      whole = firstNo-none (early s (row r)) (codeLateRow t q r) (early-numbered s (row r)) e
 
       clash : {v m : ℕ} → value v ≡ refused m → ⊥
       clash d = let z : _≡_ {A = ℕ} 0 1 = cc in omega arith
@@ -76,18 +82,18 @@ module _ (t : List ℕ) (q : Queue) (r : RowCall) (a : RowAnswer) (t′ : List �
       same : {m l : ℕ} → refused m ≡ refused l → m ≡ l
       same d = cc
 
-      go : (m : ℕ) → firstNo (codeLate t q (packetOf t r)) ≡ m → (contains (numbers (lateRow t q r)) n ≡ true) × (s′ ≡ s)
+      go : (m : ℕ) → firstNo (codeLateRow t q r) ≡ m → (contains (numbers (lateRow t q r)) n ≡ true) × (s′ ≡ s)
       go zero d = absurd (clash (sym (done-whole (whole ∙ d) .0) ∙ k))
       go (suc m) d =
           let w = refused-whole m (whole ∙ d) in
           let number : suc m ≡ n = same (sym (w .0) ∙ k) in
-          (rw (numbers-same t q r) at (rw number at (firstNo-number (codeLate t q (packetOf t r)) m d)), w .1)
+          (rw (numbers-same t q r) at (rw number at (firstNo-number (codeLateRow t q r) m d)), w .1)
 
-  row-exact : Arrays q → Sound t q → (rowReply a ≡ machine s (row r) .reply) × (s′ ≡ machine s (row r) .after)
-  row-exact arrays sound = go (firstNo (codeQuestions t q r)) refl
+  row-exact : Arrays q → Decided s (row r) → (rowReply a ≡ machine s (row r) .reply) × (s′ ≡ machine s (row r) .after)
+  row-exact arrays decided = go (firstNo (codeQuestions t q r)) refl
     where
       e : firstNo (questions s (row r)) ≡ firstNo (codeQuestions t q r)
-      e = sym (questions-same t q sound arrays r)
+      e = sym (⊎-elim (λ sound. questions-same t q sound arrays r) (λ n. ap firstNo (code-nil t q r n)) decided)
 
       go : (n : ℕ) → firstNo (codeQuestions t q r) ≡ n → (rowReply a ≡ machine s (row r) .reply) × (s′ ≡ machine s (row r) .after)
       go zero d = rw (machine-accepted s (row r) (e ∙ d)) (done-whole d)
@@ -99,7 +105,7 @@ module _ (t : List ℕ) (q : Queue) (r : RowCall) (a : RowAnswer) (t′ : List �
     where
       yes : firstNo (codeQuestions t q r) ≡ 0 → (m : ℕ) → firstNo (early s (row r)) ≡ m → AllYes (early s (row r))
       yes d zero e = firstNo-all (early s (row r)) (early-numbered s (row r)) e
-      yes d (suc m) e = absurd (omega (arith, firstNo-append (early s (row r)) (codeLate t q (packetOf t r)) m e))
+      yes d (suc m) e = absurd (omega (arith, firstNo-append (early s (row r)) (codeLateRow t q r) m e))
 
       go : (n : ℕ) → firstNo (codeQuestions t q r) ≡ n → Untouched s s′
       go zero d = rw (done-whole d .1) (bounded-accepted s (row r) (yes d (firstNo (early s (row r))) refl))

@@ -1,7 +1,7 @@
 -- On a sound store the code's questions of a row call have the paper's answers.
 use mathlib.Core.Path.{_≡_, refl, sym, ap, ap₂, _∙_}
 use mathlib.Core.Logic.{⊎-elim, _↔_}
-use mathlib.Core.Bool.{Bool, true, false, cond, not, _&&_, _||_, false≢true}
+use mathlib.Core.Bool.{Bool, true, false, cond, not, _&&_, _||_}
 use mathlib.Core.List.{List, [], _∷_, _++_}
 use Prim.Native.Nat.{ℕ, zero, suc, pred, _+_, _≤_, _<_}
 use native.Mathlib.Omega.{arith}
@@ -10,22 +10,24 @@ use borrow.Author.Tests.{leb-true, le-leb, eqb-true, eqb-false, ltb-true, not-tr
 use Rattle.machine.specs.declared.Queue.{Queue}
 use Rattle.machine.specs.Range.{matching, everyOf}
 use Rattle.machine.specs.Words.{isCell, ceiling}
-use Rattle.machine.specs.Table.{capacity, firstFree, wordAt, rootCount, cellCount}
+use Rattle.machine.specs.Table.{capacity, firstFree, wordAt}
 use Rattle.machine.specs.Queue.{Arrays, Packet, slots, appended, waiting}
-use Rattle.machine.specs.Packets.{Counter, root, cell, Direction, plus, minus, Change, kindOf, changes, sameCounter, sameDirection, movedBy, waitingChange, contains}
-use Rattle.machine.specs.Calls.{RowCall, car, cdr, cons, setLeft, setRight, up, down, row, store, packetOf, written}
+use Rattle.machine.specs.Packets.{Counter, root, cell, plus, minus, Change, kindOf, changes, sameCounter, sameDirection, movedBy, waitingChange, contains}
+use Rattle.machine.specs.Calls.{RowCall, car, cdr, cons, setLeft, setRight, up, down, row, store, packetOf, readsNil, written}
 use Rattle.machine.specs.Step.{counterWord}
-use Rattle.machine.specs.Questions.{Question, ask, firstNo, refusedBy, heldEnough, slotEmpty, cellFree, heldWithin, pointersWithin, earlyRow, early, askFree, lateRow, late, questions}
+use Rattle.machine.specs.Questions.{Question, ask, firstNo, heldEnough, slotEmpty, cellFree, heldWithin, pointersWithin, earlyRow, early, askFree, lateQueued, lateRow, late, questions}
 use Rattle.machine.specs.Audit.{Sound}
 use Rattle.machine.proofs.Range.{tested, not-both, lt-or-ge, or-left, or-right, matching-other}
 use Rattle.machine.proofs.Lists.{everyOf-at, everyOf-all}
-use Rattle.machine.proofs.Words.{cell-index, cell-number, index-cell}
+use Rattle.machine.proofs.Words.{cell-index, index-cell}
 use Rattle.machine.proofs.Questions.{Numbered, AllYes, firstNo-append, firstNo-none, firstNo-all, early-numbered}
+use Rattle.machine.proofs.NilReads.{late-queued}
 use Rattle.soundness.proofs.CodeTests.{pointers-counted, first-free, held-most, pointers-most}
 use Rattle.soundness.proofs.RowQuestions.{held-test}
 use Rattle.soundness.proofs.RaisedCells.{Fits, question9, question10}
-use Rattle.calls.specs.Tests.{raisedWords, countWithin, raisedWithin, freeByEnd, codeLate, codeQuestions}
+use Rattle.calls.specs.Tests.{raisedWords, countWithin, raisedWithin, freeByEnd, codeLate, codeLateRow, codeQuestions}
 use Rattle.calls.proofs.LateLaws.{bool-same}
+use Rattle.calls.proofs.RowLaws.{code-nil}
 
 -- a word that a list of changes raises by something is among its raised words
 raised-contains : (k : Counter) (x : ℕ) (hs : List Change) → 0 < movedBy k plus x hs → contains (raisedWords k hs) x ≡ true
@@ -143,15 +145,23 @@ module _ (t : List ℕ) (q : Queue) (s : Sound t q) (a : Arrays q) (r : RowCall)
       let paper = question10 t q s r yes (held-test t (waiting q) p (y .0)) (y .1 .1) in
       bool-same (raisedWithin cell t (waiting q) p) (pointersWithin (written t r)) (λ h. paper .1 (code .0 h)) (λ h. code .1 (paper .0 h))
 
-  late-same : firstNo (codeLate t q p) ≡ firstNo (lateRow t q r)
-  unfolding codeLate lateRow
+  late-same : firstNo (codeLate t q p) ≡ firstNo (lateQueued t q r)
+  unfolding codeLate
   late-same =
       ap (λ (f : List Question). firstNo (ask 6 (heldEnough t (waiting q) p) ∷ ask 7 (slotEmpty q) ∷ f ++ (ask 9 (raisedWithin root t (waiting q) p) ∷ ask 10 (raisedWithin cell t (waiting q) p) ∷ []))) (free-same t q s r)
       ∙ firstNo-same before (ask 9 (raisedWithin root t (waiting q) p) ∷ ask 10 (raisedWithin cell t (waiting q) p) ∷ [])
       (ask 9 (heldWithin (written t r) (waiting (appended q p))) ∷ ask 10 (pointersWithin (written t r)) ∷ []) (omega arith, (omega arith, free-numbered t r))
       (λ y. ap₂ (λ (d e : Bool). firstNo (ask 9 d ∷ ask 10 e ∷ [])) (nine y) (ten y))
 
+pub queued-late : (t : List ℕ) (q : Queue) (r : RowCall) → readsNil r ≡ false → codeLateRow t q r ≡ codeLate t q (packetOf t r)
+unfolding codeLateRow
+queued-late t q r n = rw n
+
 pub questions-same : (t : List ℕ) (q : Queue) → Sound t q → Arrays q → (r : RowCall) → firstNo (codeQuestions t q r) ≡ firstNo (questions (store t q []) (row r))
 unfolding codeQuestions questions late early
-questions-same t q s a r =
-    firstNo-same (early (store t q []) (row r)) (codeLate t q (packetOf t r)) (lateRow t q r) (early-numbered (store t q []) (row r)) (λ y. late-same t q s a r (y .1))
+questions-same t q s a r = ⊎-elim (λ n. ap firstNo (code-nil t q r n)) queued (tested (readsNil r))
+  where
+    queued : readsNil r ≡ false → firstNo (codeQuestions t q r) ≡ firstNo (questions (store t q []) (row r))
+    queued n =
+        firstNo-same (early (store t q []) (row r)) (codeLateRow t q r) (lateRow t q r) (early-numbered (store t q []) (row r))
+        (λ y. ap firstNo (queued-late t q r n) ∙ late-same t q s a r (y .1) ∙ sym (ap firstNo (late-queued t q r n)))

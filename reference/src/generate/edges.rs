@@ -4,7 +4,7 @@
 use std::io;
 
 use super::damaged::sample;
-use super::follower::Follower;
+use super::follower::{nil_read, Follower};
 use super::list::List;
 use super::rng::Rng;
 use super::sound::any_call;
@@ -13,10 +13,13 @@ use crate::queue::Packet;
 use crate::store::Store;
 use crate::table::*;
 
-/// Each call once; only fresh may get past question 1.
+/// Each call once; only fresh may get past question 1. The reads of nil stand
+/// where they are decided even if the store does pass it.
 fn every_call(list: &mut List, title: &str, store: &Store) -> io::Result<()> {
     list.title(title)?;
     list.store(store)?;
+    list.brief(Call::Car(0))?;
+    list.brief(Call::Cdr(0))?;
     for call in [
         Call::Audit,
         Call::Step,
@@ -85,6 +88,7 @@ fn long_tables(list: &mut List) -> io::Result<()> {
         list.store(&store)?;
         for call in [
             Call::Audit,
+            Call::Car(0),
             Call::Step,
             Call::Cons(0, 0),
             Call::Fresh(4_097),
@@ -226,6 +230,7 @@ pub fn garbage(rng: &mut Rng, list: &mut List, cases: usize) -> io::Result<()> {
         list.title("garbage")?;
         list.store(&store)?;
         list.call(Call::Audit)?;
+        list.brief(nil_read(rng))?;
         for _ in 0..3 {
             list.brief(any_call(rng, cells))?;
         }

@@ -21,12 +21,23 @@ pub struct Follower {
 /// How often each sort of call is chosen, where it can be accepted.
 #[derive(Clone, Copy)]
 pub struct Mix {
+    pub nil_read: usize,
     pub read: usize,
     pub cons: usize,
     pub replace: usize,
     pub up: usize,
     pub down: usize,
     pub step: usize,
+}
+
+impl Mix {
+    fn without_nil_reads(self) -> usize {
+        self.read + self.cons + self.replace + self.up + self.down + self.step
+    }
+}
+
+pub fn nil_read(rng: &mut Rng) -> Call {
+    rng.pick(&[Call::Car(NIL), Call::Cdr(NIL)])
 }
 
 impl Follower {
@@ -149,6 +160,10 @@ impl Follower {
     /// A call that is accepted as a rule: only the ceilings can refuse it, and
     /// a full queue where the mix has no steps.
     pub fn lively_call(&mut self, rng: &mut Rng, mix: Mix) -> Call {
+        // Accepted at any time, with a full queue and with nothing held too.
+        if rng.weighted(&[mix.nil_read, mix.without_nil_reads()]) == 0 {
+            return nil_read(rng);
+        }
         if self.no_free_cell() {
             self.growing = false;
         } else if self.held.len() <= self.cells() as usize / 8 {
@@ -238,10 +253,12 @@ impl Follower {
             }
             5 => {
                 let no_cell = rng.pick(&[NIL, FIRST_ATOM, u16::MAX]);
+                // Of the words that are no cell, a read refuses atoms only.
+                let atom = rng.pick(&[FIRST_ATOM, u16::MAX]);
                 let y = self.operand(rng);
                 Some(rng.pick(&[
-                    Call::Car(no_cell),
-                    Call::Cdr(no_cell),
+                    Call::Car(atom),
+                    Call::Cdr(atom),
                     Call::ReplaceLeft(no_cell, y),
                     Call::ReplaceRight(no_cell, y),
                     Call::Up(no_cell, 1),

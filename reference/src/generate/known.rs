@@ -1,4 +1,4 @@
-//! The cases K1 to K11 of document 01 as a list.
+//! The cases K1 to K11 of document 01 as a list, and reads of nil.
 
 use std::io;
 
@@ -54,7 +54,49 @@ pub fn known(list: &mut List) -> io::Result<()> {
         list.brief(Up(1, 1))?;
     }
     list.call(Cons(0, 0))?;
-    list.call(Audit)
+    list.call(Car(0))?;
+    list.call(Cdr(0))?;
+    list.call(Audit)?;
+    nil_reads(list)
+}
+
+/// Reads of nil before a fresh, with no cell in use, and past a list's end.
+fn nil_reads(list: &mut List) -> io::Result<()> {
+    use Call::*;
+    let cases: &[(&str, &[Call])] = &[
+        ("nil read before a fresh", &[Car(0), Cdr(0)]),
+        ("nil read with no cell in use", &[Fresh(3), Car(0), Cdr(0)]),
+        (
+            "list of three walked past its end",
+            &[
+                Fresh(3),
+                Cons(32_769, 0),
+                Cons(32_770, 1),
+                Cons(32_771, 2),
+                Cdr(3),
+                Cdr(2),
+                Cdr(1),
+                Cdr(0),
+                Car(0),
+                Step,
+                Step,
+                Step,
+                Step,
+                Step,
+                Step,
+                Cdr(0),
+            ],
+        ),
+    ];
+    for (title, calls) in cases {
+        list.title(title)?;
+        used_store(list, 3)?;
+        for &call in *calls {
+            list.call(call)?;
+        }
+        list.call(Audit)?;
+    }
+    Ok(())
 }
 
 /// A zero table for so many cells and a scratch one word longer than needed

@@ -30,14 +30,15 @@ impl List<'_> {
         write_call(&mut self.output, call, true)
     }
 
-    /// Audits a store and tries the questions that are answered on any store,
-    /// then a step, which is decided on sound stores only.
+    /// Audits a store and tries the questions that are answered on any store
+    /// and a read of nil, then a step, which is decided on sound stores only.
     pub fn case(&mut self, title: &str, store: &Store) -> io::Result<()> {
         self.title(title)?;
         self.store(store)?;
         self.call(Call::Audit)?;
         self.brief(Call::Up(1, 0))?;
         self.brief(Call::Cons(0, 32_767))?;
+        self.brief(Call::Car(32_768))?;
         self.brief(Call::Cdr(0))?;
         self.call(Call::Step)?;
         self.call(Call::Audit)

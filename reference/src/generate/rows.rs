@@ -47,8 +47,10 @@ pub fn rows(rng: &mut Rng, list: &mut List, cases: usize) -> io::Result<()> {
     Ok(())
 }
 
+/// Reads of nil are frequent, so that enough of them meet a full queue.
 fn without_steps(rng: &mut Rng) -> Mix {
     Mix {
+        nil_read: 12,
         step: 0,
         ..random_mix(rng)
     }

@@ -21,6 +21,7 @@ struct Style {
 }
 
 const BALANCED: Mix = Mix {
+    nil_read: 3,
     read: 20,
     cons: 40,
     replace: 20,
@@ -40,6 +41,7 @@ fn style(name: &str) -> Option<Style> {
         "lively" | "ceiling" => lively,
         "full" => Style {
             mix: Mix {
+                nil_read: 6,
                 step: 12,
                 ..BALANCED
             },
@@ -117,8 +119,11 @@ impl<W: Write> Session<'_, W> {
         Ok(self.follower.perform(call))
     }
 
-    /// The only calls of a session that question 1 refuses.
+    /// The only calls of a session that question 1 refuses; reads of nil are
+    /// always among them.
     fn before_fresh(&mut self, rng: &mut Rng) -> io::Result<()> {
+        self.call(Call::Car(NIL))?;
+        self.call(Call::Cdr(NIL))?;
         let calls = [
             Call::Car(1),
             Call::Cons(0, 0),

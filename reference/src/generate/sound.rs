@@ -12,6 +12,7 @@ use crate::table::*;
 pub fn random_mix(rng: &mut Rng) -> Mix {
     let mut weight = || 1 + rng.below(40);
     Mix {
+        nil_read: 1 + weight() / 10,
         read: weight(),
         cons: weight(),
         replace: weight(),

@@ -227,6 +227,8 @@ pub fn first_questions(store: &Store, call: Call) -> Result<(), u8> {
             }
             return Ok(());
         }
+        // A1: a read of nil is asked questions 1 and 4 only.
+        Call::Car(0) | Call::Cdr(0) => (vec![0], None),
         Call::Car(x) | Call::Cdr(x) | Call::Up(x, _) | Call::Down(x, _) => (vec![x], Some(x)),
         Call::Cons(x, y) => (vec![x, y], None),
         Call::ReplaceLeft(x, y) | Call::ReplaceRight(x, y) => (vec![x, y], Some(x)),
@@ -265,7 +267,8 @@ fn names(call: Call, model: &Model) -> Vec<u16> {
         .collect()
 }
 
-/// Makes the call on a sound store (any store for fresh and audit).
+/// Makes the call on a sound store (any store for fresh, audit and a read of
+/// nil).
 pub fn perform(store: &mut Store, call: Call) -> Reply {
     match attempt(store, call) {
         Ok((after, reply)) => {
@@ -308,6 +311,8 @@ fn attempt(store: &Store, call: Call) -> Result<(Store, Reply), u8> {
             return Ok((after, reply));
         }
         Call::Step => return Ok(step(store)),
+        // A1: it replies nil and leaves the store as it is.
+        Call::Car(0) | Call::Cdr(0) => return Ok((store.clone(), Reply::Done(0))),
         _ => {}
     }
     let before = model(store);

@@ -4,6 +4,7 @@ use std::io;
 
 use crate::call::Call;
 use crate::generate::edges;
+use crate::generate::follower::nil_read;
 use crate::generate::list::List;
 use crate::generate::rng::Rng;
 use crate::generate::sound;
@@ -18,6 +19,7 @@ pub fn mutants(rng: &mut Rng, list: &mut List, cases: usize) -> io::Result<()> {
         list.title("mutant")?;
         list.store(&store)?;
         list.call(Call::Audit)?;
+        list.brief(nil_read(rng))?;
         for _ in 0..2 {
             list.brief(sound::any_call(rng, cells))?;
         }
@@ -42,8 +44,9 @@ fn mutant(rng: &mut Rng, cells: u16) -> Store {
     store
 }
 
-/// Mutants and garbage, audited, each with calls that questions 3 to 5 refuse
-/// on any store and then all row calls and steps on its cells, decided or not.
+/// Mutants and garbage, audited, each with reads of nil and calls that questions
+/// 3 to 5 refuse on any store and then all row calls and steps on its cells,
+/// decided or not.
 pub fn wrecks(rng: &mut Rng, list: &mut List, cases: usize) -> io::Result<()> {
     for case in 0..cases {
         let cells = match case % 12 {
@@ -60,20 +63,19 @@ pub fn wrecks(rng: &mut Rng, list: &mut List, cases: usize) -> io::Result<()> {
         let (x, y, n) = (cells, rng.within(0, cells), rng.within(1, 4_095));
         let bad = rng.pick(&[cells + 1, 32_767]);
         let no_cell = rng.pick(&[0, 32_768, 65_535]);
+        let atom = rng.pick(&[32_768, 65_535]);
         for call in [
+            Call::Car(0),
             Call::Fresh(rng.pick(&[0, 4_097])),
             rng.pick(&[Call::Up(x, 0), Call::Down(bad, 4_096)]),
             rng.pick(&[Call::Car(bad), Call::Cdr(bad), Call::Up(bad, n)]),
             rng.pick(&[Call::Cons(y, bad), Call::ReplaceLeft(no_cell, bad)]),
-            rng.pick(&[
-                Call::Car(no_cell),
-                Call::Cdr(no_cell),
-                Call::Down(no_cell, n),
-            ]),
+            rng.pick(&[Call::Car(atom), Call::Cdr(atom), Call::Down(no_cell, n)]),
             rng.pick(&[
                 Call::ReplaceLeft(no_cell, y),
                 Call::ReplaceRight(no_cell, y),
             ]),
+            Call::Cdr(0),
         ] {
             list.brief(call)?;
         }

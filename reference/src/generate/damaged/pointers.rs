@@ -206,6 +206,7 @@ fn many_pointers(list: &mut List) -> io::Result<()> {
         for call in [
             Call::Audit,
             Call::Cons(0, 32_767),
+            Call::Car(0),
             Call::Cons(1, 1),
             Call::Cons(1, 0),
             Call::Cons(0, 1),

@@ -49,37 +49,37 @@ cell-asked-requires-6 c κs = search needs
 returns : tie.Need-returns
 returns c q =
     let i = c .before .before .before .before .before .args in
-    early-of (i .table .now) (placed q (i .place) (i .count)) (c .cell-asked .result) (i .call) _ (c .before .before .call .given .1) (c .cell-asked .ensures q)
+    early-of (i .table .now) (placed q (i .place) (i .count)) (c .cell-asked .result) (i .call) _ (c .before .before .before .before .before .pre) (c .before .before .call .given .1) (c .cell-asked .ensures q)
 
 returns-2 : tie.Need-returns-2
 returns-2 c q =
     let i = c .before .before .before .before .before .args in
-    early-of (i .table .now) (placed q (i .place) (i .count)) (c .cell-asked2 .result) (i .call) _ (c .before .before .call2 .given .1) (c .cell-asked2 .ensures q)
+    early-of (i .table .now) (placed q (i .place) (i .count)) (c .cell-asked2 .result) (i .call) _ (c .before .before .before .before .before .pre) (c .before .before .call2 .given .1) (c .cell-asked2 .ensures q)
 
 returns-3 : tie.Need-returns-3
 returns-3 c q =
     let i = c .before .before .before .before .before .args in
-    early-of (i .table .now) (placed q (i .place) (i .count)) (c .words-asked .result) (i .call) _ (c .before .before .call3 .given .1) (c .words-asked .ensures q)
+    early-of (i .table .now) (placed q (i .place) (i .count)) (c .words-asked .result) (i .call) _ (c .before .before .before .before .before .pre) (c .before .before .call3 .given .1) (c .words-asked .ensures q)
 
 returns-4 : tie.Need-returns-4
 returns-4 c q =
     let i = c .before .before .before .before .before .args in
-    early-of (i .table .now) (placed q (i .place) (i .count)) (c .cell-asked3 .result) (i .call) _ (c .before .before .call4 .given .1) (c .cell-asked3 .ensures q)
+    early-of (i .table .now) (placed q (i .place) (i .count)) (c .cell-asked3 .result) (i .call) _ (c .before .before .before .before .before .pre) (c .before .before .call4 .given .1) (c .cell-asked3 .ensures q)
 
 returns-5 : tie.Need-returns-5
 returns-5 c q =
     let i = c .before .before .before .before .before .args in
-    early-of (i .table .now) (placed q (i .place) (i .count)) (c .cell-asked4 .result) (i .call) _ (c .before .before .call5 .given .1) (c .cell-asked4 .ensures q)
+    early-of (i .table .now) (placed q (i .place) (i .count)) (c .cell-asked4 .result) (i .call) _ (c .before .before .before .before .before .pre) (c .before .before .call5 .given .1) (c .cell-asked4 .ensures q)
 
 returns-6 : tie.Need-returns-6
 returns-6 c q =
     let i = c .before .before .before .before .before .args in
-    early-of (i .table .now) (placed q (i .place) (i .count)) (c .cell-asked5 .result) (i .call) _ (c .before .before .call6 .given .1) (c .cell-asked5 .ensures q)
+    early-of (i .table .now) (placed q (i .place) (i .count)) (c .cell-asked5 .result) (i .call) _ (c .before .before .before .before .before .pre) (c .before .before .call6 .given .1) (c .cell-asked5 .ensures q)
 
 returns-7 : tie.Need-returns-7
 returns-7 c q =
     let i = c .before .before .before .before .before .args in
-    early-of (i .table .now) (placed q (i .place) (i .count)) (c .cell-asked6 .result) (i .call) _ (c .before .before .call7 .given .1) (c .cell-asked6 .ensures q)
+    early-of (i .table .now) (placed q (i .place) (i .count)) (c .cell-asked6 .result) (i .call) _ (c .before .before .before .before .before .pre) (c .before .before .call7 .given .1) (c .cell-asked6 .ensures q)
 
 pub early-asked-spec : {M : Type 1} → statement M
 early-asked-spec =
