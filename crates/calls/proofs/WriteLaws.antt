@@ -1,13 +1,12 @@
 -- What a row call writes, word by word, is what the machine has it write.
 use mathlib.Core.Path.{_≡_, refl, ap, ap₂, _∙_}
-use mathlib.Core.Logic.{⊎-elim}
 use mathlib.Core.Bool.{cond}
 use mathlib.Core.List.{List, [], _∷_}
-use Prim.Native.Nat.{ℕ, pred, _-_, _≤_}
+use Prim.Native.Nat.{ℕ, pred, _-_}
 use native.Mathlib.Omega.{arith}
 use lib.Dec.{eqb}
 use denote.Enum.Declared.{tagOf}
-use types.Run.{OneOf}
+use types.Run.{OneOf, miss}
 use Rattle.machine.specs.declared.RowCall as declared
 use Rattle.machine.proofs.RowCall.{the-type}
 use Rattle.machine.specs.Table.{left, newCell, firstFree, lastFree, wordAt, putWord, putEnds, putCell}
@@ -28,15 +27,12 @@ pub put-field : (t u : List ℕ) (x k y : ℕ) → u ≡ putWord t (x - 1) k y �
 put-field t u x k y e = e ∙ ap (λ (i : ℕ). putWord t i k y) (omega arith)
 
 -- the other calls are the enum's first two and last two
-between : (n : ℕ) → OneOf (0 ∷ 1 ∷ 5 ∷ 6 ∷ []) n → 2 ≤ n → n ≤ 4 → ⊥
-between n h l m = ⊎-elim (λ e. omega arith) (λ s. ⊎-elim (λ e. omega arith) (λ r. ⊎-elim (λ e. omega arith) (λ e. omega arith) r) s) h
-
 pub unwritten : (t : List ℕ) (call : declared.RowCall) → OneOf (0 ∷ 1 ∷ 5 ∷ 6 ∷ []) (tagOf the-type call) → t ≡ written t (callOf call)
 unfolding written
 unwritten t (declared.RowCall.Car x) h = refl
 unwritten t (declared.RowCall.Cdr x) h = refl
-unwritten t (declared.RowCall.Cons x y) h = absurd (between 2 h (omega arith) (omega arith))
-unwritten t (declared.RowCall.SetLeft x y) h = absurd (between 3 h (omega arith) (omega arith))
-unwritten t (declared.RowCall.SetRight x y) h = absurd (between 4 h (omega arith) (omega arith))
+unwritten t (declared.RowCall.Cons x y) h = absurd (miss (0 ∷ 1 ∷ 5 ∷ 6 ∷ []) 2 tt h)
+unwritten t (declared.RowCall.SetLeft x y) h = absurd (miss (0 ∷ 1 ∷ 5 ∷ 6 ∷ []) 3 tt h)
+unwritten t (declared.RowCall.SetRight x y) h = absurd (miss (0 ∷ 1 ∷ 5 ∷ 6 ∷ []) 4 tt h)
 unwritten t (declared.RowCall.Up x n) h = refl
 unwritten t (declared.RowCall.Down x n) h = refl
