@@ -1,4 +1,4 @@
--- Sameness of bytes, search and numbers by place, as loops go.
+-- Sameness of bytes and search by place, as loops go.
 use mathlib.Core.Path.{_≡_, refl, sym, ap, _∙_}
 use mathlib.Core.Bool.{Bool, true, false, cond, _&&_}
 use mathlib.Core.List.{List, [], _∷_}
@@ -9,10 +9,7 @@ use lib.Dec.{leb, eqb}
 use lib.ListN.{length, getD, drop, drop-of-length-le}
 use lib.Seq.{drop-cons}
 use borrow.Author.Tests.{eq-eqb, ne-eqb, eqb-true, le-leb, lt-leb}
-use Rattle.line_text.specs.declared.Operand
-use Rattle.line_text.specs.declared.Operand.{Operand}
-use Rattle.line_text.specs.Bytes.{digitZero, digitNine, sameBytes, before}
-use Rattle.line_text.specs.Requests.{mostOperand, isDigit, numberFrom}
+use Rattle.line_text.specs.Bytes.{sameBytes, before}
 
 pub drop-at : (s : List ℕ) (i : ℕ) → i < length s → drop i s ≡ getD s i 0 ∷ drop (i + 1) s
 drop-at s i h = rw (add-one i) (drop-cons s i 0 h)
@@ -81,31 +78,3 @@ module _ (b : ℕ) (s : List ℕ) (j : ℕ) (p : Past b s j) where
 
   pub past-found : j < length s → getD s j 0 ≡ b → j ≡ before b s
   past-found h e = sym (before-found b s j h e) ∙ p
-
--- a number that is too large stays so
-pub number-large : (v : ℕ) (s : List ℕ) → mostOperand < v → numberFrom v s ≡ Operand.Nothing
-unfolding numberFrom
-number-large v [] h = rw (lt-leb v mostOperand h)
-number-large v (d ∷ ds) h = rw (number-large (10 * v + (d - digitZero)) ds (omega arith)) (either (isDigit d))
-  where
-    either : (b : Bool) → cond b Operand.Nothing Operand.Nothing ≡ Operand.Nothing
-    either true = refl
-    either false = refl
-
-module _ (v : ℕ) (s : List ℕ) (i : ℕ) where
-  pub number-step : i < length s → digitZero ≤ getD s i 0 → getD s i 0 ≤ digitNine
-      → numberFrom v (drop i s) ≡ numberFrom (10 * v + (getD s i 0 - digitZero)) (drop (i + 1) s)
-  unfolding numberFrom
-  number-step h low high = rw (drop-at s i h, le-leb digitZero (getD s i 0) low, le-leb (getD s i 0) digitNine high)
-
-  pub number-below : i < length s → getD s i 0 < digitZero → numberFrom v (drop i s) ≡ Operand.Nothing
-  unfolding numberFrom
-  number-below h low = rw (drop-at s i h, lt-leb digitZero (getD s i 0) low)
-
-  pub number-above : i < length s → digitZero ≤ getD s i 0 → digitNine < getD s i 0 → numberFrom v (drop i s) ≡ Operand.Nothing
-  unfolding numberFrom
-  number-above h low high = rw (drop-at s i h, le-leb digitZero (getD s i 0) low, lt-leb (getD s i 0) digitNine high)
-
-  pub number-end : length s ≤ i → v ≤ mostOperand → numberFrom v (drop i s) ≡ Operand.Number v
-  unfolding numberFrom
-  number-end h low = rw (drop-of-length-le s h, le-leb v mostOperand low)

@@ -1,4 +1,5 @@
 pub mod ByteLaws
+pub mod NumberLaws
 pub mod PutLaws
 pub mod WordLaws
 pub mod RequestLaws

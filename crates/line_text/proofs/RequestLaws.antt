@@ -12,12 +12,12 @@ use lib.Seq.{take-all}
 use borrow.Author.Tests.{eq-eqb, ne-eqb, le-leb, lt-leb}
 use Rattle.machine.specs.declared.RowCall
 use Rattle.machine.specs.declared.RowCall.{RowCall}
-use Rattle.line_text.specs.declared.Operand
-use Rattle.line_text.specs.declared.Operand.{Operand}
+use Rattle.line_text.specs.declared.Number
+use Rattle.line_text.specs.declared.Number.{Number}
 use Rattle.line_text.specs.declared.Request
 use Rattle.line_text.specs.declared.Request.{Request}
 use Rattle.line_text.specs.Bytes.{digitZero, ascii, sameBytes, before, onFirst, split, wordsOf, space}
-use Rattle.line_text.specs.Requests.{numberFrom, zeroAlone, operandOf, withNone, withOne, withTwo, ifOne, ifBoth, byWords, requestOf, mostBytes}
+use Rattle.line_text.specs.Requests.{operandOf, withNone, withOne, withTwo, ifOne, ifBoth, byWords, requestOf, mostBytes}
 use Rattle.line_text.proofs.ByteLaws.{same-equal}
 use Rattle.line_text.proofs.WordLaws.{split-all, split-at}
 
@@ -69,38 +69,6 @@ module _ (k : List ℕ) (x y : ℕ) where
   unfolding withTwo
   two-bad h₁ h₂ h₃ h₄ h₅ = rw (h₁, h₂, h₃, h₄, h₅)
 
--- an operand's first byte
-pub operand-none : (s : List ℕ) → length s ≡ 0 → Operand.Nothing ≡ operandOf s
-unfolding operandOf
-operand-none [] h = refl
-operand-none (d ∷ ds) h = absurd (never h)
-  where
-    never : suc (length ds) ≡ 0 → ⊥
-    never p = omega arith
-
-pub operand-zero : (s : List ℕ) → getD s 0 0 ≡ digitZero → length s ≡ 1 → Operand.Number 0 ≡ operandOf s
-unfolding operandOf
-operand-zero [] e h = absurd (never h)
-  where
-    never : _≡_ {A = ℕ} 0 1 → ⊥
-    never p = omega arith
-operand-zero (d ∷ []) e h = rw (eq-eqb d digitZero e)
-operand-zero (d ∷ b ∷ ds) e h = absurd (never h)
-  where
-    never : suc (suc (length ds)) ≡ 1 → ⊥
-    never p = omega arith
-
-pub operand-leading : (s : List ℕ) → getD s 0 0 ≡ digitZero → (length s ≡ 1 → ⊥) → Operand.Nothing ≡ operandOf s
-unfolding operandOf
-operand-leading [] e h = refl
-operand-leading (d ∷ []) e h = absurd (h refl)
-operand-leading (d ∷ b ∷ ds) e h = rw (eq-eqb d digitZero e)
-
-pub operand-number : (s : List ℕ) → (length s ≡ 0 → ⊥) → (getD s 0 0 ≡ digitZero → ⊥) → numberFrom 0 s ≡ operandOf s
-unfolding operandOf
-operand-number [] l e = absurd (l refl)
-operand-number (d ∷ ds) l e = rw (ne-eqb d digitZero e)
-
 -- the words of what follows a keyword, by the place of the next space
 pub words-one : (s : List ℕ) (n : ℕ) → n ≡ before space s → n ≡ length s → wordsOf s ≡ s ∷ []
 words-one s n e h = split-all space s (sym e ∙ h)
@@ -133,11 +101,11 @@ pub line-short : (s : List ℕ) → length s ≤ mostBytes → byWords (wordsOf 
 unfolding requestOf
 line-short s h = rw (le-leb (length s) mostBytes h)
 
-pub one-word : (k s : List ℕ) (n : ℕ) (a : Operand) → a ≡ operandOf s → n ≡ before space s → n ≡ length s → ifOne k a ≡ byWords (k ∷ wordsOf s)
+pub one-word : (k s : List ℕ) (n : ℕ) (a : Number) → a ≡ operandOf s → n ≡ before space s → n ≡ length s → ifOne k a ≡ byWords (k ∷ wordsOf s)
 unfolding byWords
 one-word k s n a ea e h = rw (words-one s n e h, ea)
 
-pub both-words : (k u s : List ℕ) (n : ℕ) (a b : Operand) → a ≡ operandOf u → b ≡ operandOf s → n ≡ before space s → n ≡ length s
+pub both-words : (k u s : List ℕ) (n : ℕ) (a b : Number) → a ≡ operandOf u → b ≡ operandOf s → n ≡ before space s → n ≡ length s
     → ifBoth k a b ≡ byWords (k ∷ u ∷ wordsOf s)
 unfolding byWords
 both-words k u s n a b ea eb e h = rw (words-one s n e h, ea, eb)

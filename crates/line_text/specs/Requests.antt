@@ -1,39 +1,25 @@
 -- What a line asks for: a call with its operands, or nothing that the session knows.
-use mathlib.Core.Bool.{Bool, cond, _&&_}
+use mathlib.Core.Bool.{cond}
 use mathlib.Core.List.{List, [], _∷_}
-use Prim.Native.Nat.{ℕ, _+_, _-_, _*_}
-use lib.Dec.{leb, eqb}
+use Prim.Native.Nat.{ℕ}
+use lib.Dec.{leb}
 use lib.ListN.{length}
 use Rattle.machine.specs.declared.RowCall
 use Rattle.machine.specs.declared.RowCall.{RowCall}
-use Rattle.line_text.specs.declared.Operand
-use Rattle.line_text.specs.declared.Operand.{Operand}
+use Rattle.line_text.specs.declared.Number
+use Rattle.line_text.specs.declared.Number.{Number}
 use Rattle.line_text.specs.declared.Request
 use Rattle.line_text.specs.declared.Request.{Request}
-use Rattle.line_text.specs.Bytes.{digitZero, digitNine, ascii, sameBytes, wordsOf}
-
--- 0 to 9
-abbrev pub isDigit : ℕ → Bool
-isDigit b = leb digitZero b && leb b digitNine
+use Rattle.line_text.specs.Bytes.{ascii, sameBytes, wordsOf}
+use Rattle.line_text.specs.Numbers.{numberOf}
 
 -- the largest operand
 abbrev pub mostOperand : ℕ
 mostOperand = 65535
 
--- the number that v and then these digits give, if all are digits and it is at most 65,535
-unfoldable pub numberFrom : ℕ → List ℕ → Operand
-numberFrom v [] = cond (leb v mostOperand) (Operand.Number v) Operand.Nothing
-numberFrom v (d ∷ ds) = cond (isDigit d) (numberFrom (10 * v + (d - digitZero)) ds) Operand.Nothing
-
--- after a leading 0 nothing follows
-abbrev pub zeroAlone : List ℕ → Operand
-zeroAlone [] = Operand.Number 0
-zeroAlone (d ∷ ds) = Operand.Nothing
-
 -- an operand: 0 to 65,535 in base ten without leading zeros
-unfoldable pub operandOf : List ℕ → Operand
-operandOf [] = Operand.Nothing
-operandOf (d ∷ ds) = cond (eqb d digitZero) (zeroAlone ds) (numberFrom 0 (d ∷ ds))
+abbrev pub operandOf : List ℕ → Number
+operandOf word = numberOf mostOperand word
 
 unfoldable pub withNone : List ℕ → Request
 withNone k = cond (sameBytes k (ascii "step")) Request.Step Request.Bad
@@ -54,14 +40,14 @@ withTwo k x y =
     (cond (sameBytes k (ascii "down")) (Request.Row (RowCall.Down x y))
     Request.Bad))))
 
-abbrev pub ifOne : List ℕ → Operand → Request
-ifOne k (Operand.Number x) = withOne k x
-ifOne k Operand.Nothing = Request.Bad
+abbrev pub ifOne : List ℕ → Number → Request
+ifOne k (Number.Value x) = withOne k x
+ifOne k Number.Nothing = Request.Bad
 
-abbrev pub ifBoth : List ℕ → Operand → Operand → Request
-ifBoth k (Operand.Number x) (Operand.Number y) = withTwo k x y
-ifBoth k (Operand.Number x) Operand.Nothing = Request.Bad
-ifBoth k Operand.Nothing b = Request.Bad
+abbrev pub ifBoth : List ℕ → Number → Number → Request
+ifBoth k (Number.Value x) (Number.Value y) = withTwo k x y
+ifBoth k (Number.Value x) Number.Nothing = Request.Bad
+ifBoth k Number.Nothing b = Request.Bad
 
 -- a keyword and its operands, one space before each
 unfoldable pub byWords : List (List ℕ) → Request

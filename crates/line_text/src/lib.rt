@@ -1,6 +1,7 @@
 // The session's texts: from a line's bytes to what it asks for, and from an answer to an output line. Nothing here calls the store.
 pub mod bytes;
 pub mod kept;
+pub mod numbers;
 pub mod parse;
 pub mod texts;
 
@@ -14,9 +15,9 @@ pub enum Request {
     Bad,
 }
 
-// What a word says as an operand.
-pub enum Operand {
-    Number(u16),
+// What a word says as a number.
+pub enum Number {
+    Value(u32),
     Nothing,
 }
 

@@ -1,60 +1,21 @@
 // From a line's bytes to what it asks for.
-use crate::Operand;
+use crate::Number;
 use crate::Request;
 use crate::bytes::find;
 use crate::bytes::same;
+use crate::numbers::number;
 use machine::RowCall;
 ghost use mathlib.Core.Path.{_≡_};
 ghost use mathlib.Core.List.{_∷_};
 ghost use Rattle.line_text.specs.Bytes.{wordsOf};
-ghost use Rattle.line_text.specs.Requests.{numberFrom, operandOf, withOne, withTwo, ifOne, ifBoth, byWords, requestOf};
+ghost use Rattle.line_text.specs.Numbers.{AtMost};
+ghost use Rattle.line_text.specs.Requests.{mostOperand, withOne, withTwo, ifOne, ifBoth, byWords, requestOf};
 
 // The most bytes of a line, its line feed not counted.
 pub const MOST_BYTES: usize = 80;
 
 // The largest operand.
 const MOST_OPERAND: u32 = u16::MAX as u32;
-
-// The number that these digits give, with or without leading zeros.
-fn number(s: &[u8]) -> Operand
-    ensures { λ r. ⌜ r ≡ numberFrom 0 (now (s .entry)) ⌝ }
-{
-    let mut v: u32 = 0;
-    let mut i = 0;
-    while i < s.len() {
-        let d = s[i];
-        if d < b'0' {
-            return Operand::Nothing;
-        }
-        if b'9' < d {
-            return Operand::Nothing;
-        }
-        if MOST_OPERAND < v {
-            return Operand::Nothing;
-        }
-        v = 10 * v + ((d - b'0') as u32);
-        i += 1;
-    }
-    if MOST_OPERAND < v {
-        return Operand::Nothing;
-    }
-    Operand::Number(v as u16)
-}
-
-fn operand(s: &[u8]) -> Operand
-    ensures { λ r. ⌜ r ≡ operandOf (now (s .entry)) ⌝ }
-{
-    if s.len() == 0 {
-        return Operand::Nothing;
-    }
-    if s[0] == b'0' {
-        if s.len() == 1 {
-            return Operand::Number(0);
-        }
-        return Operand::Nothing;
-    }
-    number(s)
-}
 
 fn with_one(word: &[u8], x: u16) -> Request
     ensures { λ r. ⌜ r ≡ withOne (now (word .entry)) x ⌝ }
@@ -92,24 +53,26 @@ fn with_two(word: &[u8], x: u16, y: u16) -> Request
     Request::Bad
 }
 
-fn if_one(word: &[u8], a: Operand) -> Request
+fn if_one(word: &[u8], a: Number) -> Request
+    requires { ⌜ AtMost mostOperand a ⌝ }
     ensures { λ r. ⌜ r ≡ ifOne (now (word .entry)) a ⌝ }
 {
     match a {
-        Operand::Number(x) => with_one(word, x),
-        Operand::Nothing => Request::Bad,
+        Number::Value(x) => with_one(word, x as u16),
+        Number::Nothing => Request::Bad,
     }
 }
 
-fn if_both(word: &[u8], a: Operand, b: Operand) -> Request
+fn if_both(word: &[u8], a: Number, b: Number) -> Request
+    requires { ⌜ AtMost mostOperand a × AtMost mostOperand b ⌝ }
     ensures { λ r. ⌜ r ≡ ifBoth (now (word .entry)) a b ⌝ }
 {
-    let Operand::Number(x) = a else {
+    let Number::Value(x) = a else {
         return Request::Bad;
     };
     match b {
-        Operand::Number(y) => with_two(word, x, y),
-        Operand::Nothing => Request::Bad,
+        Number::Value(y) => with_two(word, x as u16, y as u16),
+        Number::Nothing => Request::Bad,
     }
 }
 
@@ -119,7 +82,11 @@ fn second_operand(word: &[u8], first: &[u8], rest: &[u8]) -> Request
 {
     let end = find(rest, b' ');
     if end == rest.len() {
-        return if_both(word, operand(first), operand(rest));
+        return if_both(
+            word,
+            number(first, MOST_OPERAND),
+            number(rest, MOST_OPERAND),
+        );
     }
     Request::Bad
 }
@@ -130,7 +97,7 @@ fn operands(word: &[u8], rest: &[u8]) -> Request
 {
     let end = find(rest, b' ');
     if end == rest.len() {
-        return if_one(word, operand(rest));
+        return if_one(word, number(rest, MOST_OPERAND));
     }
     let next = end + 1;
     second_operand(word, &rest[..end], &rest[next..])

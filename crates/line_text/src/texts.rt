@@ -4,7 +4,7 @@ ghost use mathlib.Core.Path.{_≡_};
 ghost use mathlib.Core.List.{_++_};
 ghost use Prim.Native.Nat.{_+_, _≤_, _<_};
 ghost use lib.ListN.{length};
-ghost use Rattle.line_text.specs.Texts.{digits, mostDigits, decimal, wordLength, verdictRoom, verdictText, room, outputLine};
+ghost use Rattle.line_text.specs.Texts.{digits, mostDigits, decimal, verdictRoom, verdictText, room, outputLine};
 ghost use Rattle.line_text.specs.Put.{Put, ShowsTens, CountsUp, Next};
 
 // No number here has more digits.
@@ -35,7 +35,7 @@ fn put_digits(out: &mut [u8], at: usize, most: usize, n: u64) -> usize
     end + 1
 }
 
-fn put_word(out: &mut [u8], at: usize, word: &[u8]) -> usize
+pub fn put_word(out: &mut [u8], at: usize, word: &[u8]) -> usize
     requires { ⌜ at + length (now word) ≤ length (now out) ⌝ }
     ensures { λ r. ⌜ Put (now (out .entry)) at (now (word .entry)) (now (out .exit)) r ⌝ }
 {
@@ -48,8 +48,8 @@ fn put_word(out: &mut [u8], at: usize, word: &[u8]) -> usize
 }
 
 // Most numbers have one digit, which needs no call.
-fn put_counted(out: &mut [u8], at: usize, word: &[u8], n: u16) -> usize
-    requires { ⌜ (length (now word) ≡ wordLength) × (at + verdictRoom ≤ length (now out)) ⌝ }
+pub fn put_counted(out: &mut [u8], at: usize, word: &[u8], n: u16) -> usize
+    requires { ⌜ at + length (now word) + mostDigits ≤ length (now out) ⌝ }
     ensures { λ r. ⌜ Put (now (out .entry)) at (now (word .entry) ++ decimal n) (now (out .exit)) r ⌝ }
 {
     let end = put_word(out, at, word);

@@ -10,25 +10,16 @@ use Rattle.line_text.proofs.RequestLaws.{last-part, last-part-length}
 use Rattle.line_text.proofs.WordLaws.{append-none}
 use Rattle.session_lines.specs.declared.Session.{Session}
 use Rattle.session_lines.specs.Progress.{Feeds, Finishes}
-use Rattle.session_lines.specs.Whole.{State, Part, Fed, lastState, inputs, begin}
+use Rattle.session_lines.specs.Whole.{State, Part, left, FedPart, Fed, lastState, taken, inputs, begin}
+use Rattle.serving.proofs.ChainLaws.{linked-both, last-both, joined-both}
 use Rattle.session_lines.proofs.Theorem.{whole}
-use Rattle.session.specs.declared.Read
-use Rattle.session.specs.declared.Read.{Read}
-use Rattle.session.specs.declared.Outcome
-use Rattle.session.specs.declared.Outcome.{Outcome}
-use Rattle.session.specs.Threading.{state, Within, Threads, Taken, Follows, Reads, remaining, Concludes, Runs}
-
-fed-both : (s : State) (ps qs : List Part) → Fed s ps → Fed (lastState s ps) qs → Fed s (ps ++ qs)
-fed-both s [] qs f g = g
-fed-both s (p ∷ ps) qs f g = (f .0, fed-both (p .after) ps qs (f .1) g)
-
-last-both : (s : State) (ps qs : List Part) → lastState s (ps ++ qs) ≡ lastState (lastState s ps) qs
-last-both s [] qs = refl
-last-both s (p ∷ ps) qs = last-both (p .after) ps qs
-
-inputs-both : (ps qs : List Part) → inputs (ps ++ qs) ≡ inputs ps ++ inputs qs
-inputs-both [] qs = refl
-inputs-both (p ∷ ps) qs = rw (inputs-both ps qs, append-assoc)
+use Rattle.streams.specs.declared.Read
+use Rattle.streams.specs.declared.Read.{Read}
+use Rattle.streams.specs.Reading.{Within, remaining, Counted}
+use Rattle.streams.proofs.ReadingLaws.{end-not-more, failed-not-more, going}
+use Rattle.streams.specs.declared.Outcome
+use Rattle.streams.specs.declared.Outcome.{Outcome}
+use Rattle.session.specs.Threading.{state, Threads, Taken, Follows, Reads, Concludes, Runs}
 
 pub threads-none : (s : State) → Threads s [] s
 threads-none s = record { parts = []; fed = tt; last = refl; joined = refl }
@@ -36,17 +27,10 @@ threads-none s = record { parts = []; fed = tt; last = refl; joined = refl }
 pub threads-both : {s s′ s″ : State} {x y : List ℕ} → Threads s x s′ → Threads s′ y s″ → Threads s (x ++ y) s″
 threads-both {s} {s′} {s″} a b = record {
   parts = a .parts ++ b .parts;
-  fed = fed-both s (a .parts) (b .parts) (a .fed) (rw (a .last) (b .fed));
-  last = last-both s (a .parts) (b .parts) ∙ ap (λ (z : State). lastState z (b .parts)) (a .last) ∙ b .last;
-  joined = rw (inputs-both (a .parts) (b .parts), a .joined, b .joined);
+  fed = linked-both FedPart left s (a .parts) (b .parts) (a .fed) (rw (a .last) (b .fed));
+  last = last-both left s (a .parts) (b .parts) ∙ ap (λ (z : State). lastState z (b .parts)) (a .last) ∙ b .last;
+  joined = rw (joined-both taken (a .parts) (b .parts), a .joined, b .joined);
 }
-
--- outcomes are told apart
-pub end-not-more : Outcome.End ≡ Outcome.More → ⊥
-end-not-more e = let z : _≡_ {A = ℕ} 0 1 = cc in omega arith
-
-pub failed-not-more : Outcome.Failed ≡ Outcome.More → ⊥
-failed-not-more e = let z : _≡_ {A = ℕ} 0 1 = cc in omega arith
 
 -- a call of `feed` is one part
 pub threads-one : {s : Session} {t scratch input : List ℕ} {s′ : Session} {taken written : ℕ} {t′ scratch′ out : List ℕ}
@@ -76,27 +60,11 @@ module _ (input : List ℕ) (from : ℕ) {s₁ : Session} {t₁ scratch₁ : Lis
   pub more-threads : {s : State} → Threads s (take from input) (state s₁ t₁ scratch₁) → Threads s (take (from + more) input) (state s₂ t₂ scratch₂)
   more-threads a = rw (take-add from more input) (threads-both a (rw (last-part input from) at (threads-one fed)))
 
--- the reads that are left are enough for what the theorem speaks of
-abbrev pub Counted : Outcome → ℕ → List ℕ → Type 0
-Counted Outcome.More reads taken = 2 ^ 64 ≤ reads + 1 + length taken
-Counted Outcome.End reads taken = reads ≡ 0
-Counted Outcome.Failed reads taken = reads ≡ 0
-
-pub fewer : (reads : ℕ) (o : Outcome) → 0 < reads → remaining reads o < reads
-fewer reads Outcome.More h = omega arith
-fewer reads Outcome.End h = h
-fewer reads Outcome.Failed h = h
-
 -- how far a run has come
 pub record Running (s : State) (outcome : Outcome) (reads : ℕ) : Type 0 where
   pub taken : List ℕ
   pub threads : Threads begin taken s
   pub counted : Counted outcome reads taken
-
-going : (o : Outcome) (reads : ℕ) (taken : List ℕ) → Counted o reads taken → 0 < reads → 2 ^ 64 ≤ reads + 1 + length taken
-going Outcome.More reads taken h l = h
-going Outcome.End reads taken h l = absurd (omega arith)
-going Outcome.Failed reads taken h l = absurd (omega arith)
 
 module _ {s s′ : State} {o : Outcome} {reads : ℕ} (a : Running s o reads) (l : 0 < reads) where
   -- a read of some bytes

@@ -2,32 +2,20 @@
 -- That a part's input is what was read, and that its output is written, cannot be stated: libc's contracts say nothing of the bytes.
 use mathlib.Core.Path.{_≡_}
 use mathlib.Core.List.{List, _++_}
-use Prim.Native.Nat.{ℕ, zero, suc, _+_, _-_, _^_, _≤_, _<_}
+use Prim.Native.Nat.{ℕ, _+_, _-_, _^_, _≤_, _<_}
 use lib.ListN.{length, take}
-use lib.IntN.{ℤ, pos, negsuc}
 use Rattle.session_lines.specs.declared.Session.{Session}
 use Rattle.session_lines.specs.Listing.{listing}
 use Rattle.session_lines.specs.Progress.{Finishes}
 use Rattle.session_lines.specs.Whole.{State, Part, Fed, lastState, inputs, outputs, begin}
-use Rattle.session.specs.declared.Read
-use Rattle.session.specs.declared.Read.{Read}
-use Rattle.session.specs.declared.Outcome
-use Rattle.session.specs.declared.Outcome.{Outcome}
+use Rattle.streams.specs.declared.Outcome
+use Rattle.streams.specs.declared.Outcome.{Outcome}
+use Rattle.streams.specs.declared.Read
+use Rattle.streams.specs.declared.Read.{Read}
+use Rattle.streams.specs.Reading.{Within}
 
 abbrev pub state : Session → List ℕ → List ℕ → State
 state s table scratch = record { session = s; table = table; scratch = scratch }
-
--- what an answer of `libc::read` means
-abbrev pub meaning : ℤ → Read
-meaning (pos zero) = Read.End
-meaning (pos (suc k)) = Read.Bytes (suc k)
-meaning (negsuc k) = Read.Failed
-
--- bytes that were read are some, and have room in a buffer of this length
-abbrev pub Within : ℕ → Read → Type 0
-Within size (Read.Bytes n) = (0 < n) × (n ≤ size)
-Within size Read.End = Unit {0}
-Within size Read.Failed = Unit {0}
 
 -- some calls of `feed`, each handed the state that the last one left, lead from s to s′ and take these bytes
 pub record Threads (s : State) (taken : List ℕ) (s′ : State) : Type 0 where
@@ -59,12 +47,6 @@ pub record Reads (s : State) (buffer : List ℕ) (outcome : Outcome) (s′ : Sta
   pub read : Read
   pub within : Within (length buffer) read
   pub follows : Follows read s buffer outcome s′
-
--- the reads that are left: none but where there is to be more
-abbrev pub remaining : ℕ → Outcome → ℕ
-remaining reads Outcome.More = reads - 1
-remaining reads Outcome.End = 0
-remaining reads Outcome.Failed = 0
 
 -- the buffer's front is all that was ahead, and nothing is to come
 pub record Finished (s : State) (result : Outcome) (out : List ℕ) : Type 0 where

@@ -1,63 +1,25 @@
 // A session from standard input to standard output. Proved (specs/Threading): what goes from call to call is as session_lines' theorem on whole
 // sessions wants it. Not proved, since libc's contracts say nothing of bytes: that what is fed is the input, and that the output is written.
-use libc::STDERR_FILENO;
-use libc::STDIN_FILENO;
-use libc::STDOUT_FILENO;
 use session_lines::Session;
+use streams::Outcome;
+use streams::Read;
+use streams::left;
 ghost use mathlib.Core.Path.{_≡_};
-ghost use Prim.Native.Nat.{_≤_, _<_};
+ghost use Prim.Native.Nat.{_≤_};
 ghost use lib.ListN.{length};
 ghost use Rattle.line_text.specs.Texts.{room};
 ghost use Rattle.session_lines.specs.Whole.{begin};
-ghost use Rattle.session.specs.Threading.{state, meaning, Within, Relays, Follows, Reads, remaining, Concludes, Runs};
-
-// What a read gave: so many bytes, the end of the input, or a failure.
-enum Read {
-    Bytes(usize),
-    End,
-    Failed,
-}
-
-// How the session goes on: with more of the input, with its end, or not at all, since a read or a write failed.
-enum Outcome {
-    More,
-    End,
-    Failed,
-}
+ghost use Rattle.streams.specs.Reading.{Within};
+ghost use Rattle.session.specs.Threading.{state, Relays, Follows, Reads, Concludes, Runs};
 
 struct Relayed {
     session: Session,
     outcome: Outcome,
 }
 
-// What an answer of libc::read means.
-fn meant(got: isize) -> Read
-    ensures { λ r. ⌜ r ≡ meaning got ⌝ }
-{
-    if got < 0 {
-        return Read::Failed;
-    }
-    if got == 0 {
-        return Read::End;
-    }
-    Read::Bytes(got as usize)
-}
-
-// One read from standard input into the buffer's front.
-fn read_front(input: &mut [u8]) -> Read
-    ensures { λ r. ⌜ Within (length (now (input .exit))) r ⌝ }
-{
-    let got = libc::read(STDIN_FILENO, input);
-    meant(got)
-}
-
 // Writes to standard output; a failure is told on standard error.
 fn put(bytes: &[u8]) -> bool {
-    if io::write_all(STDOUT_FILENO, bytes) {
-        return true;
-    }
-    io::write_all(STDERR_FILENO, b"session: writing failed\n");
-    false
+    streams::put(bytes, b"session: writing failed\n")
 }
 
 // A part of the input is fed, and what it gives is written.
@@ -114,7 +76,7 @@ fn follow(
             outcome: Outcome::End,
         },
         Read::Failed => {
-            io::write_all(STDERR_FILENO, b"session: reading failed\n");
+            streams::tell(b"session: reading failed\n");
             Relayed {
                 session: session,
                 outcome: Outcome::Failed,
@@ -135,20 +97,8 @@ fn read_part(
     ensures { λ r. ⌜ Reads (state session (now (table .entry)) (now (scratch .entry))) (now (input .exit))
         (r .outcome) (state (r .session) (now (table .exit)) (now (scratch .exit))) ⌝ }
 {
-    let read = read_front(input);
+    let read = streams::read_front(input);
     follow(read, session, table, scratch, input, out)
-}
-
-// The reads that are left.
-fn left(reads: u64, outcome: Outcome) -> u64
-    requires { ⌜ 0 < reads ⌝ }
-    ensures { λ r. ⌜ r ≡ remaining reads outcome ⌝ }
-{
-    match outcome {
-        Outcome::More => reads - 1,
-        Outcome::End => 0,
-        Outcome::Failed => 0,
-    }
 }
 
 // At the end of the input, and only there, a last line without its line feed is served.

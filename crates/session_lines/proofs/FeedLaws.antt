@@ -20,8 +20,8 @@ use Rattle.line_text.proofs.WordLaws.{append-none, before-most}
 use Rattle.line_text.proofs.KeepLaws.{take-cap}
 use Rattle.session_lines.specs.declared.Session.{Session}
 use Rattle.session_lines.specs.Listing.{listed}
-use Rattle.session_lines.specs.Serving.{Good}
-use Rattle.session_lines.proofs.ServeLaws.{Serves}
+use Rattle.serving.specs.Serving.{Good}
+use Rattle.serving.proofs.ServeLaws.{Serves}
 use Rattle.session_lines.specs.Progress.{lastLine, sessionOf, begunLine, ahead, Tells, FeedsLines, Finishes}
 use Rattle.session_lines.proofs.TellsLaws.{line-tells, joined-tells, ended-tells, tells-both}
 

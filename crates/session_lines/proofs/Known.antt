@@ -2,11 +2,13 @@
 use mathlib.Core.Path.{refl}
 use Rattle.machine.proofs.Computes.{computes}
 use Rattle.line_text.specs.Bytes.{split, sameBytes}
-use Rattle.line_text.specs.Requests.{numberFrom, operandOf, withNone, withOne, withTwo, byWords, requestOf}
+use Rattle.line_text.specs.Numbers.{numberFrom, numberOf}
+use Rattle.line_text.specs.Requests.{withNone, withOne, withTwo, byWords, requestOf}
 use Rattle.line_text.specs.Texts.{digits, outputLine}
-use Rattle.session_lines.specs.Listing.{listingWith, listed, called}
+use Rattle.serving.specs.Serving.{called}
+use Rattle.session_lines.specs.Listing.{listingWith, listed}
 use Rattle.session_lines.specs.Known.{Known}
 
 pub known : Known
-unfolding computes listingWith listed called split sameBytes numberFrom operandOf withNone withOne withTwo byWords requestOf digits outputLine
+unfolding computes listingWith listed called split sameBytes numberFrom numberOf withNone withOne withTwo byWords requestOf digits outputLine
 known = (refl, (refl, (refl, (refl, (refl, (refl, (refl, (refl, (refl, (refl, (refl, (refl, tt))))))))))))

@@ -1,5 +1,4 @@
 pub mod Known
-pub mod ServeLaws
 pub mod LineLaws
 pub mod TellsLaws
 pub mod FeedLaws

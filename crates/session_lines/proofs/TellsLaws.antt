@@ -16,9 +16,9 @@ use Rattle.line_text.specs.Requests.{requestOf}
 use Rattle.line_text.specs.Kept.{keptBytes, Keeps}
 use Rattle.line_text.specs.Put.{Next}
 use Rattle.line_text.specs.Texts.{outputLine}
-use Rattle.session_lines.specs.Listing.{served, listed}
-use Rattle.session_lines.specs.Serving.{Good}
-use Rattle.session_lines.proofs.ServeLaws.{Serves}
+use Rattle.serving.specs.Serving.{served, Good}
+use Rattle.session_lines.specs.Listing.{listed}
+use Rattle.serving.proofs.ServeLaws.{Serves}
 use Rattle.session_lines.specs.Progress.{onto, sessionOf, begunLine, ahead, TellsLine, Tells}
 use Rattle.session_lines.proofs.LineLaws.{onto-none, lines-joined, lines-ended, listed-capped}
 

@@ -1,15 +1,14 @@
 -- The parts' outputs joined are the listing of the parts joined.
 use mathlib.Core.Path.{_≡_, refl, sym, ap, _∙_}
-use mathlib.Core.Logic.{inl}
 use mathlib.Core.List.{List, [], _∷_, _++_}
 use Prim.Native.Nat.{ℕ, _+_, _^_, _<_}
 use native.Mathlib.Omega.{arith}
 use lib.ListN.{length, take}
-use Rattle.machine.specs.Table.{capacity}
 use Rattle.line_text.specs.Bytes.{linesOf}
-use Rattle.session_lines.specs.Listing.{unmade, listed, listingWith, listing}
+use Rattle.session_lines.specs.Listing.{listed, listingWith, listing}
 use Rattle.machine.specs.Words.{mostCells}
-use Rattle.session_lines.specs.Serving.{Good}
+use Rattle.serving.specs.Serving.{unmade}
+use Rattle.serving.proofs.ServeLaws.{unmade-good}
 use Rattle.session_lines.specs.Progress.{ahead, Tells, Feeds, Finishes}
 use Rattle.session_lines.specs.Whole.{State, Part, Fed, lastState, inputs, outputs, begin, Whole}
 use Rattle.line_text.proofs.WordLaws.{append-none}
@@ -20,10 +19,6 @@ all-tells : (s : State) (ps : List Part) → Fed s ps
     → Tells (s .session) (s .table) (s .scratch) (inputs ps) (outputs ps) (lastState s ps .session) (lastState s ps .table) (lastState s ps .scratch)
 all-tells s [] f = tells-none (s .session) (s .table) (s .scratch)
 all-tells s (p ∷ ps) f = tells-both (f .0 .tells) (all-tells (p .after) ps (f .1))
-
-begun-good : Good (begin .table) (begin .session .queue)
-unfolding capacity
-begun-good = inl refl
 
 -- before any input the listing is all that is ahead
 ahead-all : (x : List ℕ) → listing x ≡ ahead (begin .session) (begin .table) (begin .scratch) x
@@ -37,5 +32,5 @@ whole ps written buffer f e l =
     sym (
     ahead-all x
     ∙ ap (ahead (begin .session) (begin .table) (begin .scratch)) (sym (append-none x))
-    ∙ t .listing begun-good (omega arith) []
-    ∙ ap (λ (z : List ℕ). outputs ps ++ z) (e .listing (t .good begun-good) (omega (arith, t .counted))))
+    ∙ t .listing unmade-good (omega arith) []
+    ∙ ap (λ (z : List ℕ). outputs ps ++ z) (e .listing (t .good unmade-good) (omega (arith, t .counted))))

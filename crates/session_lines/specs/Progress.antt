@@ -11,7 +11,7 @@ use Rattle.line_text.specs.Kept.{keptBytes}
 use Rattle.line_text.specs.Texts.{room}
 use Rattle.session_lines.specs.declared.Session.{Session}
 use Rattle.session_lines.specs.Listing.{listed}
-use Rattle.session_lines.specs.Serving.{Good}
+use Rattle.serving.specs.Serving.{Good}
 
 -- a last line without its line feed, if it has a byte
 abbrev pub lastLine : List ℕ → List (List ℕ)

@@ -1,10 +1,11 @@
 -- The whole session: the outputs of the parts joined are the listing of the parts joined, however the input is parted. The proof is `whole` in proofs/Theorem.
 use mathlib.Core.Path.{_≡_}
-use mathlib.Core.List.{List, [], _∷_, _++_}
+use mathlib.Core.List.{List, _++_}
 use Prim.Native.Nat.{ℕ, _+_, _^_, _<_}
 use lib.ListN.{length, take, replicate}
 use Rattle.machine.specs.Words.{mostCells}
 use Rattle.machine.specs.Table.{tableLength, scratchWords}
+use Rattle.serving.specs.Chain.{Linked, lastOf, joined}
 use Rattle.session_lines.specs.declared.Session.{Session}
 use Rattle.session_lines.specs.Listing.{listing}
 use Rattle.session_lines.specs.Progress.{started, Feeds, Finishes}
@@ -23,25 +24,32 @@ pub record Part : Type 0 where
   pub written : ℕ
   pub after : State
 
+abbrev pub left : Part → State
+left p = p .after
+
 -- each call is handed the state that the last one left, and keeps the promise of `feed`
-abbrev pub Fed : State → List Part → Type 0
-Fed s [] = Unit {0}
-Fed s (p ∷ ps) =
+abbrev pub FedPart : State → Part → Type 0
+FedPart s p =
     Feeds (s .session) (s .table) (s .scratch) (p .input) (p .after .session) (p .taken) (p .written) (p .after .table) (p .after .scratch) (p .buffer)
-    × Fed (p .after) ps
+
+abbrev pub Fed : State → List Part → Type 0
+Fed s ps = Linked FedPart left s ps
 
 abbrev pub lastState : State → List Part → State
-lastState s [] = s
-lastState s (p ∷ ps) = lastState (p .after) ps
+lastState s ps = lastOf left s ps
 
 -- the bytes taken, and the bytes written
+abbrev pub taken : Part → List ℕ
+taken p = take (p .taken) (p .input)
+
+abbrev pub written : Part → List ℕ
+written p = take (p .written) (p .buffer)
+
 abbrev pub inputs : List Part → List ℕ
-inputs [] = []
-inputs (p ∷ ps) = take (p .taken) (p .input) ++ inputs ps
+inputs ps = joined taken ps
 
 abbrev pub outputs : List Part → List ℕ
-outputs [] = []
-outputs (p ∷ ps) = take (p .written) (p .buffer) ++ outputs ps
+outputs ps = joined written ps
 
 -- a table for 4,096 cells, zero before a fresh
 abbrev pub begin : State

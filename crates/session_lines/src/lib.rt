@@ -1,6 +1,5 @@
 // The session's lines: bytes in, bytes out. The definition of what comes out is specs/Listing.antt.
 mod lines;
-mod verdicts;
 
 use line_text::kept::KEPT_BYTES;
 use line_text::kept::capped;

@@ -1,9 +1,6 @@
 // Lines served where they lie in the input.
 use crate::Fed;
 use crate::Session;
-use crate::verdicts::fresh_verdict;
-use crate::verdicts::row_verdict;
-use crate::verdicts::step_verdict;
 use line_text::Request;
 use line_text::Verdict;
 use line_text::bytes::find;
@@ -17,6 +14,9 @@ use line_text::texts::next_number;
 use line_text::texts::number_text;
 use line_text::texts::put_line;
 use machine::Queue;
+use serving::fresh_verdict;
+use serving::row_verdict;
+use serving::step_verdict;
 ghost use mathlib.Core.Path.{_≡_};
 ghost use mathlib.Core.List.{_++_};
 ghost use Prim.Native.Nat.{_+_, _≤_};

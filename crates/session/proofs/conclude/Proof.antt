@@ -1,7 +1,7 @@
 use mathlib.Core.Path.{refl, sym}
 use lib.Seq.{length-take-le}
 use borrow.Author.Needs.{needs}
-use Rattle.session.proofs.ThreadingLaws.{end-not-more, failed-not-more}
+use Rattle.streams.proofs.ReadingLaws.{end-not-more, failed-not-more}
 use Rattle.session.proofs.conclude.Statement.{statement}
 use Rattle.session.proofs.conclude.Tie as tie
 

@@ -2,9 +2,9 @@ use mathlib.Core.Path.{refl, sym}
 use lib.Seq.{length-take-le}
 use lib.ListN.{length}
 use borrow.Author.Needs.{needs}
-use Rattle.session.specs.declared.Read
-use Rattle.session.specs.declared.Read.{Read}
-use Rattle.session.specs.Threading.{Within}
+use Rattle.streams.specs.declared.Read
+use Rattle.streams.specs.declared.Read.{Read}
+use Rattle.streams.specs.Reading.{Within}
 use Rattle.session.proofs.follow.Statement.{statement}
 use Rattle.session.proofs.follow.Tie as tie
 
@@ -27,11 +27,11 @@ enum-told c = search needs
 enum-told-2 : tie.Need-enum-told-2
 enum-told-2 c = search needs
 
-slice-aggregate-write-all : tie.Need-slice-aggregate-write-all
-slice-aggregate-write-all c = search needs
+slice-aggregate-tell : tie.Need-slice-aggregate-tell
+slice-aggregate-tell c = search needs
 
-write-all-requires : tie.Need-write-all-requires
-write-all-requires c κs = tt
+tell-requires : tie.Need-tell-requires
+tell-requires c κs = tt
 
 same-length : tie.Need-same-length
 same-length c = c .before .before .before .before .before .before .relay .kept .1 .0
@@ -65,8 +65,8 @@ follow-spec =
     relay-requires
     enum-told
     enum-told-2
-    slice-aggregate-write-all
-    write-all-requires
+    slice-aggregate-tell
+    tell-requires
     same-length
     same-length-2
     same-length-3

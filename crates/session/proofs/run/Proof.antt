@@ -4,8 +4,9 @@ use native.Mathlib.Omega.{arith}
 use lib.ListN.{length}
 use borrow.Author.Needs.{needs}
 use Rattle.session_lines.specs.Whole.{begin}
+use Rattle.streams.proofs.ReadingLaws.{fewer}
 use Rattle.session.specs.Threading.{state}
-use Rattle.session.proofs.ThreadingLaws.{Running, threads-none, fewer, running-read, running-ends}
+use Rattle.session.proofs.ThreadingLaws.{Running, threads-none, running-read, running-ends}
 use Rattle.session.proofs.run.Statement.{statement}
 use Rattle.session.proofs.run.Tie as tie
 

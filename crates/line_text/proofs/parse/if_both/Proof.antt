@@ -1,3 +1,4 @@
+use native.Mathlib.Omega.{arith}
 use borrow.Author.Needs.{needs}
 use Rattle.line_text.proofs.parse.if_both.Statement.{statement}
 use Rattle.line_text.proofs.parse.if_both.Tie as tie
@@ -13,6 +14,14 @@ returns c = search needs
 
 enum-known-b : tie.Need-enum-known-b
 enum-known-b c = search needs
+
+cast-with-two : tie.Need-cast-with-two
+cast-with-two c =
+    let at-a = c .before .before .before .before in
+    omega (arith, rw (at-a .a .given .1) at (at-a .before .before .before .pre .0))
+
+cast-with-two-2 : tie.Need-cast-with-two-2
+cast-with-two-2 c = omega (arith, rw (c .before .b .given .1) at (c .before .before .before .before .before .before .before .pre .1))
 
 with-two-requires : tie.Need-with-two-requires
 with-two-requires c κs = search needs
@@ -37,6 +46,8 @@ if-both-spec =
     enum-told
     returns
     enum-known-b
+    cast-with-two
+    cast-with-two-2
     with-two-requires
     enum-told-2
     returns-2

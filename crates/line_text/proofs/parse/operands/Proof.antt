@@ -13,18 +13,18 @@ use Rattle.line_text.proofs.parse.operands.Tie as tie
 find-requires : tie.Need-find-requires
 find-requires c κs = search needs
 
-operand-requires : tie.Need-operand-requires
-operand-requires c κs = search needs
+number-requires : tie.Need-number-requires
+number-requires c κs = search needs
 
 if-one-requires : tie.Need-if-one-requires
 if-one-requires c κs = search needs
 
 returns : tie.Need-returns
 returns c =
-    let at-operand = c .before in
-    let at-if1 = at-operand .before in
+    let at-number = c .before in
+    let at-if1 = at-number .before in
     let at-find = at-if1 .before in
-    c .if-one .ensures ∙ one-word _ _ (at-find .find .result) _ (at-operand .operand .ensures) (at-find .find .ensures .0) (at-if1 .if1 .taken)
+    c .if-one .ensures ∙ one-word _ _ (at-find .find .result) _ (at-number .number .ensures .0) (at-find .find .ensures .0) (at-if1 .if1 .taken)
 
 add-next : tie.Need-add-next
 add-next c = search needs
@@ -55,7 +55,7 @@ operands-spec =
     tie.close
     (tie.spec
     find-requires
-    operand-requires
+    number-requires
     if-one-requires
     returns
     add-next

@@ -6,7 +6,7 @@ use lib.ListN.{length}
 use borrow.Author.Needs.{needs}
 use Rattle.line_text.specs.Kept.{keptBytes}
 use Rattle.line_text.specs.Put.{ShowsTens}
-use Rattle.session_lines.proofs.ServeLaws.{Answers, answers, fresh-serves, row-serves, step-serves, bad-serves}
+use Rattle.serving.proofs.ServeLaws.{Answers, answers, fresh-serves, row-serves, step-serves, bad-serves}
 use Rattle.session_lines.specs.Progress.{sessionOf}
 use Rattle.session_lines.proofs.FeedLaws.{Going, next-tells, next-within, stopped, ended}
 use Rattle.session_lines.proofs.TellsLaws.{tells-none}

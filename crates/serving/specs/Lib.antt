@@ -1,0 +1,3 @@
+-- Requests served by the store.
+pub mod Serving
+pub mod Chain

@@ -1,0 +1,2 @@
+-- What reading standard input gives.
+pub mod Reading
