@@ -1,15 +1,17 @@
 #!/bin/sh
-# The session program against the reference on the same inputs, both built for release, in one run: million lines a second and the ratio.
-# Usage: bench/run.sh [PROGRAM...]: further programs that do the same job get a column each, in the order given.
+# The session program and the load program against the reference on the same inputs, all built for release, in one run: million lines or calls a second
+# and the ratio.
+# Usage: bench/run.sh [PROGRAM...]: further programs that do the session program's job get a column each, in the order given.
 set -eu
 cd "$(dirname "$0")/.."
 rt check session >/dev/null
+rt check load >/dev/null
 cargo build --release --offline --quiet --manifest-path reference/Cargo.toml
 reference=${CARGO_TARGET_DIR:-reference/target}/release/reference
 work=$(mktemp -d)
 trap 'rm -rf "$work"' EXIT
-printf '#!/bin/sh\nexec "%s" session\n' "$(readlink -f "$reference")" >"$work/reference"
-chmod +x "$work/reference"
+reference_session() { "$reference" session; }
+reference_load() { "$reference" load; }
 lines=1000000
 
 # A chain of C - 1 cells held at its head; then rounds that leave it as it is.
@@ -80,22 +82,33 @@ same() { # LINE
     repeated "$1" "$lines"
 }
 
-# First the outputs are compared; then the programs take turns, five times, reading from a file and writing to one. The best of each counts.
-measure() { # NAME C
-    count=$(wc -l <"$work/in")
-    row="| $1 | $2 | $count |"
-    target/bin/session <"$work/in" >"$work/ours"
-    for program in "$work/reference" $programs; do
+# One turn of a program: so many runs, each reading from a file and writing to one.
+turn() { # RUNS PROGRAM
+    left=$1
+    while [ "$left" -gt 0 ]; do
+        "$2" <"$work/in" >"$work/theirs"
+        left=$((left - 1))
+    done
+}
+# First the outputs are compared; then the programs take turns, five times. The best turn of each counts.
+compare() { # NAME C COUNT RUNS OURS REFERENCE PROGRAM...
+    row="| $1 | $2 | $3 |"
+    count=$(($3 * $4))
+    runs=$4
+    ours=$5
+    shift 5
+    "$ours" <"$work/in" >"$work/ours"
+    for program; do
         "$program" <"$work/in" >"$work/theirs"
-        cmp -s "$work/ours" "$work/theirs" || { echo "outputs differ: $1 $2, $program" >&2; exit 1; }
+        cmp -s "$work/ours" "$work/theirs" || { echo "outputs differ: $row $program" >&2; exit 1; }
     done
     : >"$work/spent"
     for _ in 1 2 3 4 5; do
         column=0
-        for program in target/bin/session "$work/reference" $programs; do
+        for program in "$ours" "$@"; do
             column=$((column + 1))
             from=$(date +%s%N)
-            "$program" <"$work/in" >"$work/theirs"
+            turn "$runs" "$program"
             echo "$column $((($(date +%s%N) - from) / 1000))" >>"$work/spent"
         done
     done
@@ -107,6 +120,17 @@ measure() { # NAME C
             for (k = 3; k <= most; k++) printf " %.2f |", n / best[k]
             print ""
         }' "$work/spent"
+}
+# A session, whose lines count.
+measure() { # NAME C
+    # shellcheck disable=SC2086 # paths, which are words
+    compare "$1" "$2" "$(wc -l <"$work/in")" 1 target/bin/session reference_session $programs
+}
+# A load, whose drawn calls count. One run takes a few milliseconds, of which starting the program takes more than one: so a turn has 50 runs, and what
+# counts is 50 starts and 50 times the calls.
+measure_load() { # SEED C
+    echo "$1 $2 65535" >"$work/in"
+    compare "load, seed $1" "$2" 65535 50 target/bin/load reference_load
 }
 
 programs=
@@ -167,3 +191,12 @@ large=$(marking_round 4096)
 echo
 awk -v a="$small" -v b="$large" 'BEGIN {
     printf "A round with one marking step takes %.2f us at C = 512 and %.2f us at C = 4,096: growth %.1f.\n", a, b, b / a }'
+
+echo
+echo "| input | C | calls | ours, million calls/s | reference, million calls/s | ratio |"
+echo "|---|---|---|---|---|---|"
+# The seeds of the reference's long inputs, with which a cons is accepted also in a large store.
+measure_load 408858366 3
+measure_load 1775118300 64
+measure_load 1976993156 600
+measure_load 3877942671 4096

@@ -32,10 +32,11 @@ class Drawing:
         for i, words in enumerate(lines):
             self.text(x + width / 2, top + 16 * i, words, 14 if i == 0 else 11.5, "bold" if i == 0 else "normal")
 
-    def line(self, points, dashed=False, colour="#555"):
+    def line(self, points, dashed=False, colour="#555", arrow=True):
         dash = ' stroke-dasharray="5 4"' if dashed else ""
+        head = ' marker-end="url(#arrow)"' if arrow else ""
         path = " ".join(f"{x},{y}" for x, y in points)
-        self.parts.append(f'<polyline points="{path}" fill="none" stroke="{colour}" stroke-width="1.4"{dash} marker-end="url(#arrow)"/>')
+        self.parts.append(f'<polyline points="{path}" fill="none" stroke="{colour}" stroke-width="1.4"{dash}{head}/>')
 
     def down(self, upper, lower, from_part=0.5, to_part=0.5, dashed=False):
         """An arrow from a part of the upper box's foot to a part of the lower box's top, with one bend if need be."""
@@ -60,56 +61,76 @@ class Drawing:
 
 
 def crates():
-    d = Drawing(1060, 800)
+    d = Drawing(1060, 890)
     # bottom
-    d.box("machine", 20, 690, 1020, 62, "definition", ["machine", "declared types; in specs/ the whole machine, the promise, the worked cases; in proofs/ their laws"])
+    d.box("machine", 20, 780, 1020, 62, "definition", ["machine", "declared types; in specs/ the whole machine, the promise, the worked cases; in proofs/ their laws"])
     # leaves
-    d.box("cells", 210, 605, 220, 50, "code", ["cells", "header, fields, counts, state"])
-    d.box("queue", 455, 605, 220, 50, "code", ["queue", "the ring; waiting changes"])
-    d.box("questions", 210, 520, 220, 50, "code", ["questions", "1 to 5 and 7: on every store"])
+    d.box("cells", 210, 695, 220, 50, "code", ["cells", "header, fields, counts, state"])
+    d.box("queue", 455, 695, 220, 50, "code", ["queue", "the ring; waiting changes"])
+    d.box("questions", 210, 610, 220, 50, "code", ["questions", "1 to 5 and 7: on every store"])
     # middle
-    d.box("calls", 210, 290, 140, 190, "code", ["calls", "fresh and the", "seven row calls"])
-    d.box("marks", 370, 430, 140, 50, "code", ["marks", "roots, marks"])
-    d.box("collector", 370, 290, 140, 75, "code", ["collector", "apply, mark,", "sweep"])
-    d.box("audit", 535, 290, 140, 36, "code", ["audit", "all rules; S5"])
-    d.box("audit_pointers", 535, 341, 140, 36, "code", ["audit_pointers", "S4"])
-    d.box("audit_packets", 535, 392, 140, 36, "code", ["audit_packets", "S3"])
-    d.box("audit_cells", 535, 443, 140, 36, "code", ["audit_cells", "S1, S2"])
-    d.box("soundness", 700, 290, 150, 365, "theorem", ["soundness", "every call keeps a", "sound store sound;", "nothing is trimmed;", "demand 3 over any", "list of calls", "", "(no code)"])
-    d.box("store", 210, 200, 640, 52, "face", ["store", "the public face: ten calls, one promise each"])
+    d.box("calls", 210, 380, 140, 190, "code", ["calls", "fresh and the", "seven row calls"])
+    d.box("marks", 370, 520, 140, 50, "code", ["marks", "roots, marks"])
+    d.box("collector", 370, 380, 140, 75, "code", ["collector", "apply, mark,", "sweep"])
+    d.box("audit", 535, 380, 140, 36, "code", ["audit", "all rules; S5"])
+    d.box("audit_pointers", 535, 431, 140, 36, "code", ["audit_pointers", "S4"])
+    d.box("audit_packets", 535, 482, 140, 36, "code", ["audit_packets", "S3"])
+    d.box("audit_cells", 535, 533, 140, 36, "code", ["audit_cells", "S1, S2"])
+    d.box("soundness", 700, 380, 150, 365, "theorem", ["soundness", "every call keeps a", "sound store sound;", "nothing is trimmed;", "demand 3 over any", "list of calls", "", "(no code)"])
+    d.box("store", 210, 290, 640, 52, "face", ["store", "the public face: ten calls, one promise each"])
     # texts and programs
-    d.box("line_text", 20, 290, 165, 365, "text", ["line_text", "a line's bytes to a", "request, a reply to", "an output line", "", "(knows no store)"])
-    d.box("session_lines", 20, 110, 330, 52, "text", ["session_lines", "bytes in, bytes out: the listing of an input"])
-    d.box("session", 20, 30, 330, 48, "text", ["session", "program: standard input to standard output"])
+    d.box("line_text", 20, 380, 165, 365, "text", ["line_text", "a line's bytes to a", "request, a reply to", "an output line", "", "(knows no store)"])
+    d.box("serving", 20, 195, 165, 52, "text", ["serving", "a request served"])
+    d.box("call_text", 205, 195, 165, 52, "text", ["call_text", "the line of a call"])
+    d.box("traffic", 390, 195, 165, 52, "text", ["traffic", "workload, draws, calls"])
+    d.box("session_lines", 20, 110, 220, 52, "text", ["session_lines", "bytes in, bytes out: a listing"])
+    d.box("load_lines", 260, 110, 220, 52, "text", ["load_lines", "a workload in, a listing out"])
+    d.box("session", 20, 30, 220, 48, "text", ["session", "program: a session"])
+    d.box("load", 260, 30, 220, 48, "text", ["load", "program: the load bench"])
+    d.box("streams", 500, 110, 150, 52, "text", ["streams", "reads and writes"])
     # tests
     d.box("store_cases", 880, 110, 160, 52, "test", ["store_cases", "program: all ten calls"])
-    d.box("state_lines", 880, 290, 160, 365, "test", ["state_lines", "reads the reference's", "lists, writes replies", "and stores"])
+    d.box("state_lines", 880, 380, 160, 365, "test", ["state_lines", "reads the reference's", "lists, writes replies", "and stores"])
     d.box("reference", 570, 30, 290, 48, "plain", ["reference", "the same machine in Rust, from the papers"], dashed=True)
 
     d.down("session", "session_lines")
-    d.down("session_lines", "store", 0.6879, 0.0578)
-    d.down("session_lines", "line_text", 0.25, 0.5)
+    d.down("load", "load_lines")
+    # both programs stand on streams
+    d.line([(200, 78), (200, 94), (440, 94)], arrow=False)
+    d.line([(440, 78), (440, 94), (575, 94), (575, 108)])
+    d.down("session_lines", "serving", 0.375, 0.5)
+    d.down("load_lines", "call_text", 0.125, 0.5)
+    d.down("load_lines", "traffic", 0.9, 0.4121)
+    # load_lines stands on session_lines and serving, too
+    d.line([(260, 136), (242, 136)])
+    # serving, call_text and traffic stand on line_text
+    d.line([(62, 247), (62, 378)])
+    d.line([(287, 247), (287, 264), (62, 264)], arrow=False)
+    d.line([(472, 247), (472, 264), (287, 264)], arrow=False)
+    # both loops call the store
+    d.line([(225, 162), (225, 176), (470, 176)], arrow=False)
+    d.line([(470, 162), (470, 176), (610, 176), (610, 288)])
     d.down("store", "calls", 0.109, 0.5)
     d.down("store", "collector", 0.359, 0.5)
     d.down("store", "audit", 0.617, 0.5)
     d.down("store", "soundness", 0.8828, 0.5)
     d.down("store_cases", "state_lines")
     # store_cases stands on the store, too
-    d.line([(880, 150), (800, 150), (800, 198)])
+    d.line([(880, 150), (800, 150), (800, 288)])
     d.down("calls", "questions", 0.5, 0.3182)
     d.down("collector", "marks")
     # marks: on questions and queue
     d.down("marks", "questions", 0.2, 0.854)
     d.down("marks", "queue", 0.9, 0.1864)
     # calls: on the queue
-    d.line([(350, 400), (360, 400), (360, 498), (475, 498), (475, 603)])
+    d.line([(350, 490), (360, 490), (360, 588), (475, 588), (475, 693)])
     # the audit: rule upon rule; its crates stand on marks, questions and queue
     d.down("audit", "audit_pointers")
     d.down("audit_pointers", "audit_packets")
     d.down("audit_packets", "audit_cells")
-    d.line([(535, 308), (522, 308), (522, 450), (512, 450)])
-    d.line([(605, 479), (605, 545), (432, 545)])
-    d.line([(675, 410), (687, 410), (687, 630), (677, 630)])
+    d.line([(535, 398), (522, 398), (522, 540), (512, 540)])
+    d.line([(605, 569), (605, 635), (432, 635)])
+    d.line([(675, 500), (687, 500), (687, 720), (677, 720)])
     d.down("questions", "cells")
     d.down("cells", "machine", 0.5, 0.294)
     d.down("queue", "machine", 0.5, 0.534)
@@ -117,11 +138,11 @@ def crates():
     d.down("soundness", "machine", 0.5, 0.7402)
     d.down("state_lines", "machine", 0.5, 0.9216)
     # expected outputs
-    d.line([(570, 54), (352, 54)], dashed=True)
+    d.line([(570, 54), (482, 54)], dashed=True)
     d.line([(860, 54), (960, 54), (960, 108)], dashed=True)
-    d.text(460, 46, "expected outputs", 11, colour="#555")
+    d.text(526, 46, "expected", 11, colour="#555")
     d.text(915, 46, "expected outputs", 11, colour="#555")
-    legend(d, 20, 772, [("definition", "definitions"), ("code", "code, proved equal to them"), ("theorem", "theorems about them"), ("face", "public calls"), ("text", "session"), ("test", "tests")])
+    legend(d, 20, 862, [("definition", "definitions"), ("code", "code, proved equal to them"), ("theorem", "theorems about them"), ("face", "public calls"), ("text", "texts and programs"), ("test", "tests")])
     d.write("architecture.svg")
 
 

@@ -17,8 +17,22 @@ root=$(dirname "$here")
 cargo build --release --offline --quiet --manifest-path "$here/Cargo.toml" || exit 2
 reference=${CARGO_TARGET_DIR:-$here/target}/release/reference
 made=$(mktemp) || exit 2
-trap 'rm -f "$made"' EXIT
+loaded=$(mktemp) || exit 2
+trap 'rm -f "$made" "$loaded"' EXIT
 cd "$root" || exit 2
+
+# Writes, for each input that a list for the load program gives, the input as it
+# stands there and what the command makes of the output.
+each_load() {
+    list=$1
+    shift
+    while IFS= read -r input; do
+        printf '== %s\n' "$input"
+        # The program is the last of its pipe, which would else hide its failure.
+        printf '%b' "$input" | "$reference" load >"$loaded" || return 1
+        "$@" <"$loaded" || return 1
+    done <"$list"
+}
 
 # Writes the output of one line of the list: kind, then arguments.
 make() {
@@ -26,7 +40,7 @@ make() {
     shift
     case $kind in
     generate) "$reference" generate "$@" ;;
-    session | states)
+    session | states | load)
         for input in "$@"; do
             "$reference" "$kind" <"$input" || return 1
         done
@@ -38,6 +52,8 @@ make() {
             "$reference" annotate "$codes" <"$input" || return 1
         done
         ;;
+    loads) each_load "$1" cat ;;
+    load-sums) each_load "$1" sha256sum ;;
     join) cat "$@" ;;
     *)
         echo "expected.txt: no such kind: $kind" >&2

@@ -1,7 +1,8 @@
-//! The reference machine of the row controller's cell store, written from
-//! document 01 alone: table, packet queue, row calls, collector step, audit,
-//! the session program, a runner for lists of stores, and generators. Document
-//! 01 is here what request A1 of document 02 makes of it.
+//! The reference machine of the row controller's cell store, written from the
+//! papers alone: table, packet queue, row calls, collector step, audit, the
+//! session program, the load program (request A2 of document 02), a runner for
+//! lists of stores, and generators. Document 01 is here what request A1 makes
+//! of it.
 
 pub mod annotate;
 pub mod audit;
@@ -9,6 +10,7 @@ pub mod call;
 pub mod collector;
 pub mod format;
 pub mod generate;
+pub mod load;
 pub mod question;
 pub mod queue;
 pub mod row;
@@ -16,3 +18,4 @@ pub mod session;
 pub mod states;
 pub mod store;
 pub mod table;
+mod text;

@@ -2,9 +2,10 @@ use std::io::{self, BufReader, BufWriter};
 use std::process::ExitCode;
 
 use reference::annotate::{self, Codes};
-use reference::{generate, session, states};
+use reference::{generate, load, session, states};
 
-const USAGE: &str = "usage: reference session | states | annotate [CODES] | generate SEED ...";
+const USAGE: &str =
+    "usage: reference session | load | states | annotate [CODES] | generate SEED ...";
 const BUFFER: usize = 1 << 16;
 
 fn main() -> ExitCode {
@@ -14,6 +15,7 @@ fn main() -> ExitCode {
     let output = BufWriter::with_capacity(BUFFER, io::stdout().lock());
     let result = match arguments.as_slice() {
         ["session"] => session::run(input, output),
+        ["load"] => load::run(input, output),
         ["states"] => states::run(input, output),
         ["annotate"] => annotate::run(Codes::ALL, input, output),
         ["annotate", codes] => match Codes::parse(codes) {

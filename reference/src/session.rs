@@ -4,12 +4,12 @@ use std::io::{self, BufRead, ErrorKind, Write};
 
 use crate::call::{Call, Reply};
 use crate::store::Store;
-use crate::table::{length, MAX_CELLS};
+use crate::text::Line;
 
 const MAX_LINE: usize = 80;
 
 pub fn run(input: impl BufRead, mut output: impl Write) -> io::Result<()> {
-    let mut store = Store::zeroed(length(MAX_CELLS), MAX_CELLS as usize);
+    let mut store = Store::for_any_fresh();
     let mut lines = Lines::new(input);
     let mut number: u64 = 0;
     while let Some(line) = lines.next_line()? {
@@ -22,15 +22,49 @@ pub fn run(input: impl BufRead, mut output: impl Write) -> io::Result<()> {
     output.flush()
 }
 
-fn write_reply(output: &mut impl Write, line: u64, reply: Reply) -> io::Result<()> {
+/// The line of a call, as `parse` reads it.
+pub fn write_call(output: &mut impl Write, call: Call) -> io::Result<()> {
+    match call {
+        Call::Fresh(cells) => write_named(output, b"fresh", &[cells]),
+        Call::Car(x) => write_named(output, b"car", &[x]),
+        Call::Cdr(x) => write_named(output, b"cdr", &[x]),
+        Call::Cons(x, y) => write_named(output, b"cons", &[x, y]),
+        Call::ReplaceLeft(x, y) => write_named(output, b"setl", &[x, y]),
+        Call::ReplaceRight(x, y) => write_named(output, b"setr", &[x, y]),
+        Call::Up(x, n) => write_named(output, b"up", &[x, n]),
+        Call::Down(x, n) => write_named(output, b"down", &[x, n]),
+        Call::Step => write_named(output, b"step", &[]),
+        Call::Audit => write_named(output, b"audit", &[]),
+    }
+}
+
+fn write_named(output: &mut impl Write, name: &[u8], operands: &[u16]) -> io::Result<()> {
+    let mut line = Line::new();
+    for &operand in operands.iter().rev() {
+        line.number(operand.into());
+        line.text(b" ");
+    }
+    line.text(name);
+    line.write(output)
+}
+
+/// The line of a reply, numbered as its call is.
+pub fn write_reply(output: &mut impl Write, number: u64, reply: Reply) -> io::Result<()> {
+    let mut line = Line::new();
     match reply {
         Reply::Done(value) | Reply::Taken { freed: value, .. } => {
-            writeln!(output, "{line} OK {value}")
+            line.number(value.into());
+            line.text(b" OK ");
         }
-        Reply::Refused(refusal) => writeln!(output, "{line} NO {}", refusal as u8),
-        Reply::Idle => writeln!(output, "{line} IDLE"),
+        Reply::Refused(refusal) => {
+            line.number(refusal as u64);
+            line.text(b" NO ");
+        }
+        Reply::Idle => line.text(b" IDLE"),
         Reply::Sound | Reply::Broken(_) => unreachable!("a session has no audit"),
     }
+    line.number(number);
+    line.write(output)
 }
 
 /// The call of a line, or none where the line is bad.
@@ -57,13 +91,18 @@ pub fn parse(line: &[u8]) -> Option<Call> {
 }
 
 /// A number from 0 to 65,535 in base ten without leading zeros.
-fn parse_operand(digits: &[u8]) -> Option<u16> {
+pub fn parse_operand(digits: &[u8]) -> Option<u16> {
+    u16::try_from(parse_number(digits)?).ok()
+}
+
+/// A number of 32 bits in base ten without leading zeros.
+pub fn parse_number(digits: &[u8]) -> Option<u32> {
     if digits.is_empty() || (digits.len() > 1 && digits[0] == b'0') {
         return None;
     }
-    digits.iter().try_fold(0u16, |value, &byte| {
+    digits.iter().try_fold(0u32, |value, &byte| {
         let digit = byte.is_ascii_digit().then(|| byte - b'0')?;
-        value.checked_mul(10)?.checked_add(u16::from(digit))
+        value.checked_mul(10)?.checked_add(u32::from(digit))
     })
 }
 

@@ -1,6 +1,7 @@
 //! A table, a queue and a scratch, as a caller lends them.
 
 use crate::queue::Queue;
+use crate::table::{length, MAX_CELLS};
 
 #[derive(Clone, Debug, PartialEq, Eq)]
 pub struct Store {
@@ -17,5 +18,9 @@ impl Store {
             queue: Queue::empty(),
             scratch: vec![0; scratch],
         }
+    }
+    /// A zero store with room for every C that a fresh can have.
+    pub fn for_any_fresh() -> Store {
+        Store::zeroed(length(MAX_CELLS), MAX_CELLS as usize)
     }
 }

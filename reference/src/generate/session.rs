@@ -5,6 +5,7 @@ use std::io::{self, Write};
 use super::follower::{Follower, Mix};
 use super::rng::Rng;
 use crate::call::{Call, Reply};
+use crate::session::write_call;
 use crate::store::Store;
 use crate::table::*;
 
@@ -91,7 +92,7 @@ pub fn write(
 ) -> io::Result<()> {
     let style = style(name).ok_or_else(|| super::usage("no such style of session"))?;
     let mut session = Session {
-        follower: Follower::new(Store::zeroed(length(MAX_CELLS), MAX_CELLS as usize)),
+        follower: Follower::new(Store::for_any_fresh()),
         output,
     };
     if name != "ceiling" {
@@ -237,21 +238,6 @@ pub fn ceiling_calls() -> Vec<Call> {
         Cdr(6),
         Step,
     ]
-}
-
-pub fn write_call(output: &mut impl Write, call: Call) -> io::Result<()> {
-    match call {
-        Call::Fresh(cells) => writeln!(output, "fresh {cells}"),
-        Call::Car(x) => writeln!(output, "car {x}"),
-        Call::Cdr(x) => writeln!(output, "cdr {x}"),
-        Call::Cons(x, y) => writeln!(output, "cons {x} {y}"),
-        Call::ReplaceLeft(x, y) => writeln!(output, "setl {x} {y}"),
-        Call::ReplaceRight(x, y) => writeln!(output, "setr {x} {y}"),
-        Call::Up(x, n) => writeln!(output, "up {x} {n}"),
-        Call::Down(x, n) => writeln!(output, "down {x} {n}"),
-        Call::Step => writeln!(output, "step"),
-        Call::Audit => writeln!(output, "audit"),
-    }
 }
 
 const BAD_LINES: [&[u8]; 48] = [

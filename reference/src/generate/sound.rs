@@ -182,7 +182,7 @@ pub fn operands(rng: &mut Rng, list: &mut List) -> io::Result<()> {
 
 /// A long run in a store of 4,096 cells, with checksums.
 pub fn large(rng: &mut Rng, list: &mut List, calls: usize) -> io::Result<()> {
-    let mut follower = Follower::new(Store::zeroed(length(MAX_CELLS), MAX_CELLS as usize));
+    let mut follower = Follower::new(Store::for_any_fresh());
     list.title("run of calls, 4096 cells")?;
     list.store(&follower.store)?;
     let mix = random_mix(rng);

@@ -1,0 +1,3 @@
+-- The line of a call.
+pub mod CallText
+pub mod ReadsBack

@@ -1,0 +1,4 @@
+pub mod WriteLaws
+pub mod Theorem
+pub mod Agrees
+pub mod Known

@@ -1,0 +1,4 @@
+pub mod DrawLaws
+pub mod InputLaws
+pub mod CapLaws
+pub mod WrongMoves
