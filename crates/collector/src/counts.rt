@@ -1,4 +1,4 @@
-// A packet's count changes, each made where its word is a cell: nil and atoms have no counts.
+// A packet's count changes. Figure 8's rrc_up, rrc_down, crc_up and crc_down, by n at once, are made where the word is a cell: nil and atoms have no counts.
 use questions::is_cell;
 use queue::Packet;
 ghost use mathlib.Core.Path.{_≡_};
@@ -8,7 +8,7 @@ ghost use Rattle.machine.specs.Table.{capacity, tableLength};
 ghost use Rattle.machine.specs.Packets.{root, cell, plus, minus, kindOf, changesOf};
 ghost use Rattle.collector.specs.Changes.{Moves, applyFitting};
 
-fn raise_root(table: &mut [u16], w: u16, n: u16)
+fn root_up(table: &mut [u16], w: u16, n: u16)
     requires { ⌜ tableLength (capacity (now table)) ≤ length (now table) ⌝ }
     ensures { λ r. ⌜ Moves (now (table .entry)) root w plus n (now (table .exit)) ⌝ }
 {
@@ -19,7 +19,7 @@ fn raise_root(table: &mut [u16], w: u16, n: u16)
     }
 }
 
-fn lower_root(table: &mut [u16], w: u16, n: u16)
+fn root_down(table: &mut [u16], w: u16, n: u16)
     requires { ⌜ tableLength (capacity (now table)) ≤ length (now table) ⌝ }
     ensures { λ r. ⌜ Moves (now (table .entry)) root w minus n (now (table .exit)) ⌝ }
 {
@@ -30,7 +30,7 @@ fn lower_root(table: &mut [u16], w: u16, n: u16)
     }
 }
 
-fn raise_cell(table: &mut [u16], w: u16, n: u16)
+fn cell_up(table: &mut [u16], w: u16, n: u16)
     requires { ⌜ tableLength (capacity (now table)) ≤ length (now table) ⌝ }
     ensures { λ r. ⌜ Moves (now (table .entry)) cell w plus n (now (table .exit)) ⌝ }
 {
@@ -41,7 +41,7 @@ fn raise_cell(table: &mut [u16], w: u16, n: u16)
     }
 }
 
-pub(crate) fn lower_cell(table: &mut [u16], w: u16, n: u16)
+pub(crate) fn cell_down(table: &mut [u16], w: u16, n: u16)
     requires { ⌜ tableLength (capacity (now table)) ≤ length (now table) ⌝ }
     ensures { λ r. ⌜ Moves (now (table .entry)) cell w minus n (now (table .exit)) ⌝ }
 {
@@ -52,32 +52,37 @@ pub(crate) fn lower_cell(table: &mut [u16], w: u16, n: u16)
     }
 }
 
-// The changes of a packet of this kind with the words a and b, in the order of the last column.
+// The changes of a packet of this kind with the words a and b, in figure 8's order; its x is a, its y is b.
 pub(crate) fn apply(table: &mut [u16], kind: u16, a: u16, b: u16)
     requires { ⌜ tableLength (capacity (now table)) ≤ length (now table) ⌝ }
     ensures { λ r. ⌜ now (table .exit) ≡ applyFitting (now (table .entry)) (changesOf (kindOf kind) a b) ⌝ }
 {
     match kind {
+        // P1
         Packet::READ => {
-            lower_root(table, a, 1);
-            raise_root(table, b, 1);
+            root_down(table, a, 1);
+            root_up(table, b, 1);
         }
+        // P2
         Packet::CONS => {
-            lower_root(table, a, 1);
-            lower_root(table, b, 1);
-            raise_cell(table, a, 1);
-            raise_cell(table, b, 1);
+            root_down(table, a, 1);
+            cell_up(table, a, 1);
+            root_down(table, b, 1);
+            cell_up(table, b, 1);
         }
+        // P3: the detached cell comes last, and its cell count falls
         Packet::REPLACE_LEFT | Packet::REPLACE_RIGHT => {
-            lower_root(table, a, 1);
-            raise_cell(table, a, 1);
-            lower_cell(table, b, 1);
+            root_down(table, a, 1);
+            cell_up(table, a, 1);
+            cell_down(table, b, 1);
         }
+        // P4
         Packet::UP => {
-            raise_root(table, a, b);
+            root_up(table, a, b);
         }
+        // P5
         Packet::DOWN => {
-            lower_root(table, a, b);
+            root_down(table, a, b);
         }
         _ => {}
     }

@@ -1,5 +1,5 @@
 // The sweep: one ascending pass over the cells that frees those in use without a mark.
-use crate::counts::lower_cell;
+use crate::counts::cell_down;
 ghost use mathlib.Core.Path.{_≡_};
 ghost use Prim.Native.Nat.{_<_, _≤_};
 ghost use lib.ListN.{length};
@@ -30,8 +30,8 @@ fn free(table: &mut [u16], index: u16, left: u16)
     ensures { λ r. ⌜ now (table .exit) ≡ freed (now (table .entry)) index left ⌝ }
 {
     let right = cells::field(table, index as usize, cells::RIGHT);
-    lower_cell(table, left, 1);
-    lower_cell(table, right, 1);
+    cell_down(table, left, 1);
+    cell_down(table, right, 1);
     append(table, index);
 }
 

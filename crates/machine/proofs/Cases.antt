@@ -16,5 +16,4 @@ more = record {
   replies = (refl, (refl, (refl, (refl, (refl, (refl, (refl, (refl, (refl, (refl, (refl, tt)))))))))));
   nil-reads = (refl, (refl, (refl, (refl, tt))));
   detach-ends = refl;
-  itself = refl;
 }

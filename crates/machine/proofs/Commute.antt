@@ -1,6 +1,6 @@
--- Writes to different words commute, and lowering a cell count commutes with joining a cell to the free chain.
+-- Writes to different words commute, so do moves of different counters, and lowering a cell count commutes with joining a cell to the free chain.
 use mathlib.Core.Path.{_≡_, refl, sym, ap, _∙_}
-use mathlib.Core.Logic.{⊎-elim}
+use mathlib.Core.Logic.{⊎-elim, _≢_}
 use mathlib.Core.Bool.{Bool, true, false, cond}
 use mathlib.Core.List.{List, [], _∷_}
 use Prim.Native.Nat.{ℕ, suc, pred, _+_, _-_, _*_, _≤_, _<_}
@@ -11,16 +11,64 @@ use lib.Seq.{set-comm, set-set}
 use borrow.Author.Tests.{eqb-true, eqb-false}
 use Rattle.machine.specs.Words.{isCell}
 use Rattle.machine.specs.Table.{stride, header, left, cellCount, freeCell, capacity, firstFree, lastFree, tableLength, position, wordAt, putWord, putEnds, putWords, putCell}
-use Rattle.machine.specs.Packets.{cell, minus}
-use Rattle.machine.specs.Step.{moveCount, join}
+use Rattle.machine.specs.Packets.{Counter, cell, Direction, minus, Change}
+use Rattle.machine.specs.Step.{counterWord, shifted, moveCount, applyChanges, join}
 use Rattle.machine.proofs.Range.{tested}
 use Rattle.machine.proofs.Words.{cell-index}
-use Rattle.machine.proofs.Table.{put-itself, firstFree-putWord, lastFree-putWord}
+use Rattle.machine.proofs.Table.{put-itself, word-other, capacity-putWord, firstFree-putWord, lastFree-putWord}
+use Rattle.machine.proofs.Moves.{counter-below, capacity-move, word-move}
 use Rattle.machine.proofs.Sweep.{joins}
 
 pub put-comm : (t : List ℕ) (i k v j m w : ℕ) → k < stride → m < stride → (i ≡ j → k ≡ m → ⊥) → putWord (putWord t i k v) j m w ≡ putWord (putWord t j m w) i k v
 unfolding putWord position
 put-comm t i k v j m w hk hm d = set-comm t (header + stride * i + k) (header + stride * j + m) v w (λ e. d (omega arith) (omega arith))
+
+-- a move spelled out
+move-is : (t : List ℕ) (k : Counter) (w : ℕ) (d : Direction) (n : ℕ)
+    → moveCount t k w d n ≡ cond (isCell (capacity t) w) (putWord t (pred w) (counterWord k) (shifted d (wordAt t (pred w) (counterWord k)) n)) t
+unfolding moveCount
+move-is t k w d n = refl
+
+module _ (t : List ℕ) (k : Counter) (a : ℕ) (d : Direction) (m : ℕ) (l : Counter) (apart : counterWord l ≢ counterWord k) where
+  abbrev before : ℕ → ℕ → List ℕ
+  before i v = putWord t i (counterWord l) v
+
+  abbrev moved : ℕ
+  moved = shifted d (wordAt t (pred a) (counterWord k)) m
+
+  -- a counter written before another is moved, or after
+  put-move : (i v : ℕ) → putWord (moveCount t k a d m) i (counterWord l) v ≡ moveCount (before i v) k a d m
+  unfolding moveCount
+  put-move i v =
+      rw (capacity-putWord t i (counterWord l) v, word-other t i (counterWord l) v (pred a) (counterWord k) (counter-below l) (counter-below k) (λ _ e. apart e))
+      (go (isCell (capacity t) a))
+    where
+      go : (b : Bool) → putWord (cond b (putWord t (pred a) (counterWord k) moved) t) i (counterWord l) v
+          ≡ cond b (putWord (before i v) (pred a) (counterWord k) moved) (before i v)
+      go true = put-comm t (pred a) (counterWord k) moved i (counterWord l) v (counter-below k) (counter-below l) (λ _ e. apart (sym e))
+      go false = refl
+
+  pub move-comm : (b : ℕ) (e : Direction) (n : ℕ) → moveCount (moveCount t k a d m) l b e n ≡ moveCount (moveCount t l b e n) k a d m
+  move-comm b e n =
+      move-is (moveCount t k a d m) l b e n
+      ∙ rw (capacity-move t k a d m, word-move t k a d m (pred b) (counterWord l) (counter-below l) apart) (go (isCell (capacity t) b))
+      ∙ ap (λ (u : List ℕ). moveCount u k a d m) (sym (move-is t l b e n))
+    where
+      to : List ℕ
+      to = before (pred b) (shifted e (wordAt t (pred b) (counterWord l)) n)
+
+      go : (c : Bool) → cond c (putWord (moveCount t k a d m) (pred b) (counterWord l) (shifted e (wordAt t (pred b) (counterWord l)) n)) (moveCount t k a d m)
+          ≡ moveCount (cond c to t) k a d m
+      go true = put-move (pred b) (shifted e (wordAt t (pred b) (counterWord l)) n)
+      go false = refl
+
+-- two changes of different counters, in either order
+pub exchange : (t : List ℕ) (h j : Change) (hs : List Change) → counterWord (j .counter) ≢ counterWord (h .counter)
+    → applyChanges t (h ∷ j ∷ hs) ≡ applyChanges t (j ∷ h ∷ hs)
+unfolding applyChanges
+exchange t h j hs apart =
+    ap (λ (u : List ℕ). applyChanges u hs)
+    (move-comm t (h .counter) (h .word) (h .direction) (h .amount) (j .counter) apart (j .word) (j .direction) (j .amount))
 
 put-again : (t : List ℕ) (i k v w : ℕ) → putWord (putWord t i k v) i k w ≡ putWord t i k w
 unfolding putWord

@@ -180,6 +180,10 @@ module _ (n word holds : ℕ) (small : word ≤ 1) (some : 1 ≤ holds) (few : h
         each (λ j. pointers t (suc j) ≤ ceiling) n (let p = pointers-first in let m = no-match in omega arith)
         (λ j m. omega (arith, pointers-other j)) i l
 
+    pub pointers-few : pointersWithin t ≡ true
+    unfolding pointersWithin
+    pointers-few = all-cells (λ i. leb (pointers t (suc i)) ceiling) (λ i l. le-leb (pointers t (suc i)) ceiling (few-pointers i l))
+
     pub shape : inRange t emptyQueue ≡ true
     shape = shape-test t emptyQueue (record {
       table = record {
@@ -215,10 +219,8 @@ module _ (n word holds : ℕ) (small : word ≤ 1) (some : 1 ≤ holds) (few : h
     packets = all-cells (λ i. true) (λ i l. refl)
 
     pointed : pointersSound t [] ≡ true
-    unfolding pointersSound undoes before pointersWithin
-    pointed = and-both
-        (all-cells (λ i. leb (pointers t (suc i)) ceiling) (λ i l. le-leb (pointers t (suc i)) ceiling (few-pointers i l)))
-        (all-cells (λ i. eqb (wordAt t i cellCount) (pointers t (suc i))) (λ i l. eq-eqb (wordAt t i cellCount) (pointers t (suc i)) (count-at i l)))
+    unfolding pointersSound undoes before
+    pointed = and-both pointers-few (all-cells (λ i. eqb (wordAt t i cellCount) (pointers t (suc i))) (λ i l. eq-eqb (wordAt t i cellCount) (pointers t (suc i)) (count-at i l)))
 
     root-at : (i : ℕ) → i < suc n → isRoot t [] i ≡ true
     unfolding isRoot

@@ -21,6 +21,7 @@ pub mod NilReads
 pub mod AuditedSound
 pub mod Computes
 pub mod Cases
+pub mod Stages
 pub mod OnlyAnswers
 pub mod Crowded
 pub mod ManyPointers

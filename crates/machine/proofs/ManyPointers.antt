@@ -1,5 +1,5 @@
 -- Question 10 at a crowded table: what the questions say of a replace that would add one pointer.
-use mathlib.Core.Path.{_≡_, refl, ap₂}
+use mathlib.Core.Path.{_≡_, refl, ap₂, _∙_}
 use mathlib.Core.Logic.{inl}
 use mathlib.Core.Bool.{Bool, true, false, cond, _||_}
 use mathlib.Core.List.{List, [], _∷_}
@@ -9,33 +9,45 @@ use lib.Dec.{leb, eqb}
 use borrow.Author.Tests.{le-leb, lt-leb}
 use Rattle.machine.specs.Range.{everyOf, matching}
 use Rattle.machine.specs.Words.{isNil, isLegal, ceiling}
-use Rattle.machine.specs.Table.{rootCount, capacity, position, wordAt, putWord}
+use Rattle.machine.specs.Table.{left, right, rootCount, capacity, position, wordAt, putWord}
 use Rattle.machine.specs.Queue.{Packet, packet, emptyQueue, slot, putSlot, appended, waiting, packetsFrom}
-use Rattle.machine.specs.Packets.{kindOf, root, plus, minus, changesOf, changes, usesOf, uses, movedBy, waitingChange}
+use Rattle.machine.specs.Packets.{replaces, kindOf, root, plus, minus, changesOf, changes, usesOf, uses, movedBy, waitingChange}
 use Rattle.machine.specs.Counts.{heldAtLeast, heldAtMost, pointers}
-use Rattle.machine.specs.Calls.{row, setRight, Store, store, field, packetOf, readsNil, written}
-use Rattle.machine.specs.Questions.{wordsLegal, xIsCell, heldEnough, slotEmpty, heldWithin, pointersWithin, earlyRow, early, askFree, lateRow, late, questions}
+use Rattle.machine.specs.Calls.{row, setLeft, setRight, value, Store, store, field, packetOf, readsNil, written, valueOf}
+use Rattle.machine.specs.Step.{outcome}
+use Rattle.machine.specs.Questions.{firstNo, inRange, wordsLegal, xIsCell, heldEnough, slotEmpty, heldWithin, pointersWithin, earlyRow, early, askFree, lateRow, late, questions}
 use Rattle.machine.specs.Audit.{Sound}
-use Rattle.machine.specs.WrongAnswers.{noes, refuses, Only, AllOnly, crowded, pointer-entries}
+use Rattle.machine.specs.Machine.{accepted}
+use Rattle.machine.specs.WrongAnswers.{noes, refuses, gives, Only, AllOnly, crowded, pointer-entries}
 use Rattle.machine.proofs.Range.{matching-same, matching-other, every-fails}
-use Rattle.machine.proofs.Crowded.{first-is, each, all-cells, held-at, one-is-cell, pointers-first, shape, sound-table}
-use Rattle.machine.proofs.OnlyAnswers.{only-first}
+use Rattle.machine.proofs.Crowded.{first-is, each, all-cells, held-at, one-is-cell, pointers-first, pointers-few, shape, sound-table}
+use Rattle.machine.proofs.Kept.{machine-accepted}
+use Rattle.machine.proofs.OnlyAnswers.{only-first, only-decided}
 
--- "replace the right field of the first cell by itself": what its packet asks and changes
-abbrev replace : ℕ → Packet
-replace b = packet 6 1 b 1
+-- a replace of a field of the first cell by that cell: what its packet asks and changes
+abbrev replace : ℕ → ℕ → Packet
+replace k b = packet k 1 b 1
 
-uses-first : (b : ℕ) → uses (replace b) 1 ≡ 2
-unfolding uses usesOf kindOf matching
-uses-first b = refl
+module _ (k f : ℕ) (kind : kindOf k ≡ replaces f) (b : ℕ) where
+  uses-first : uses (replace k b) 1 ≡ 2
+  unfolding uses usesOf matching
+  uses-first = rw kind
 
-uses-other : (b i : ℕ) → uses (replace b) (suc (suc i)) ≡ 0
-unfolding uses usesOf kindOf
-uses-other b i = let no : matching 1 (suc (suc i)) 1 ≡ 0 = matching-other 1 (suc (suc i)) 1 (λ e. omega arith) in ap₂ _+_ no no
+  uses-other : (i : ℕ) → uses (replace k b) (suc (suc i)) ≡ 0
+  unfolding uses usesOf
+  uses-other i = let no : matching 1 (suc (suc i)) 1 ≡ 0 = matching-other 1 (suc (suc i)) 1 (λ e. omega arith) in rw kind (ap₂ _+_ no no)
 
-raises-none : (b x : ℕ) → waitingChange root plus x (replace b ∷ []) ≡ 0
-unfolding waitingChange movedBy changes changesOf kindOf
-raises-none b x = refl
+  raises-none : (x : ℕ) → waitingChange root plus x (replace k b ∷ []) ≡ 0
+  unfolding waitingChange movedBy changes changesOf
+  raises-none x = rw kind
+
+left-kind : kindOf 3 ≡ replaces left
+unfolding kindOf
+left-kind = refl
+
+right-kind : kindOf 6 ≡ replaces right
+unfolding kindOf
+right-kind = refl
 
 waiting-none : waiting emptyQueue ≡ []
 unfolding waiting packetsFrom
@@ -45,9 +57,13 @@ waiting-one : (p : Packet) → waiting (appended emptyQueue p) ≡ p ∷ []
 unfolding waiting packetsFrom appended putSlot slot
 waiting-one p = refl
 
-written-is : (n holds : ℕ) → written (crowded n 0 holds) (setRight 1 1) ≡ crowded n 1 holds
+written-right : (n holds : ℕ) → written (crowded n 0 holds) (setRight 1 1) ≡ crowded n 1 holds
 unfolding written putWord position crowded
-written-is n holds = refl
+written-right n holds = refl
+
+written-left : (n holds : ℕ) → written (crowded n 0 holds) (setLeft 1 1) ≡ crowded n 0 holds
+unfolding written putWord position crowded
+written-left n holds = refl
 
 module _ (n holds : ℕ) (some : 1 ≤ holds) (few : holds ≤ ceiling) (fits : suc (2 * n) ≤ ceiling) where
   abbrev u : List ℕ
@@ -64,26 +80,27 @@ module _ (n holds : ℕ) (some : 1 ≤ holds) (few : holds ≤ ceiling) (fits : 
   unfolding heldAtLeast waitingChange
   two h = le-leb (0 + 2) (wordAt u 0 rootCount + 0) (omega (arith, first-is n 0 holds .held))
 
-  abbrev asks : ℕ → ℕ → Bool
-  asks b i = eqb (uses (replace b) (suc i)) 0 || heldAtLeast u [] i (uses (replace b) (suc i))
+  module _ (k f : ℕ) (kind : kindOf k ≡ replaces f) (b : ℕ) where
+    abbrev asks : ℕ → Bool
+    asks i = eqb (uses (replace k b) (suc i)) 0 || heldAtLeast u [] i (uses (replace k b) (suc i))
 
-  enough : (b : ℕ) → 2 ≤ holds → heldEnough u [] (replace b) ≡ true
-  unfolding heldEnough
-  enough b h =
-      all-cells n 0 holds (omega arith) some few (asks b) (each (λ i. asks b i ≡ true) n
-      (rw (uses-first b) (two h)) (λ i l. rw (uses-other b i)))
+    enough : 2 ≤ holds → heldEnough u [] (replace k b) ≡ true
+    unfolding heldEnough
+    enough h =
+        all-cells n 0 holds (omega arith) some few asks (each (λ i. asks i ≡ true) n
+        (rw (uses-first k f kind b) (two h)) (λ i l. rw (uses-other k f kind b i)))
 
-  not-enough : (b : ℕ) → holds < 2 → heldEnough u [] (replace b) ≡ false
-  unfolding heldEnough
-  not-enough b h =
-      every-fails (capacity u) (asks b) 0 (omega (arith, first-is n 0 holds .cells)) (rw (uses-first b) (no-two h))
+    not-enough : holds < 2 → heldEnough u [] (replace k b) ≡ false
+    unfolding heldEnough
+    not-enough h = every-fails (capacity u) asks 0 (omega (arith, first-is n 0 holds .cells)) (rw (uses-first k f kind b) (no-two h))
 
-  held-few : (b : ℕ) → heldWithin v (replace b ∷ []) ≡ true
-  unfolding heldWithin heldAtMost
-  held-few b =
-      all-cells n 1 holds (omega arith) some few (λ i. heldAtMost v (replace b ∷ []) i ceiling)
-      (λ i l. le-leb (wordAt v i rootCount + waitingChange root plus (suc i) (replace b ∷ [])) (ceiling + waitingChange root minus (suc i) (replace b ∷ []))
-      (omega (arith, held-at n 1 holds (omega arith) some few i l .1, raises-none b (suc i))))
+    held-few : (word : ℕ) → word ≤ 1 → heldWithin (crowded n word holds) (replace k b ∷ []) ≡ true
+    unfolding heldWithin heldAtMost
+    held-few word small =
+        let t = crowded n word holds in
+        all-cells n word holds small some few (λ i. heldAtMost t (replace k b ∷ []) i ceiling)
+        (λ i l. le-leb (wordAt t i rootCount + waitingChange root plus (suc i) (replace k b ∷ [])) (ceiling + waitingChange root minus (suc i) (replace k b ∷ []))
+        (omega (arith, held-at n word holds small some few i l .1, raises-none k f kind b (suc i))))
 
   over : ceiling < 2 + 2 * n → pointersWithin v ≡ false
   unfolding pointersWithin
@@ -100,33 +117,67 @@ module _ (n holds : ℕ) (some : 1 ≤ holds) (few : holds ≤ ceiling) (fits : 
   unfolding xIsCell
   is-cell = one-is-cell n 0 holds (omega arith) some few
 
-  packet-is : packetOf u (setRight 1 1) ≡ replace 0
+  packet-right : packetOf u (setRight 1 1) ≡ replace 6 0
   unfolding packetOf field
-  packet-is = rw (first-is n 0 holds .holds-word)
+  packet-right = rw (first-is n 0 holds .holds-word)
 
-  -- all but questions 6 and 10 say "yes"; where the pointers have no room for one more, 10 says "no"
-  module _ (tight : ceiling < 2 + 2 * n) (s : List ℕ) where
+  packet-left : packetOf u (setLeft 1 1) ≡ replace 3 1
+  unfolding packetOf field
+  packet-left = rw (first-is n 0 holds .points)
+
+  in-range : inRange u emptyQueue ≡ true
+  in-range = shape n 0 holds (omega arith) some few refl fits
+
+  pub crowded-sound : Sound u emptyQueue
+  crowded-sound = sound-table n 0 holds (omega arith) some few refl fits
+
+  module _ (s : List ℕ) where
     abbrev lent : Store
     lent = store u emptyQueue s
 
-    noes-are : (b : Bool) → heldEnough u [] (replace 0) ≡ b → noes (questions lent (row (setRight 1 1))) ≡ cond b (10 ∷ []) (6 ∷ 10 ∷ [])
-    unfolding noes questions early earlyRow late lateRow readsNil askFree slotEmpty
-    noes-are b h =
-        let yes = shape n 0 holds (omega arith) some few refl fits in
-        rw (yes, legal, is-cell, packet-is, waiting-none, waiting-one (replace 0), written-is n holds, h, held-few 0, over tight)
+    -- a replace of the first cell by itself adds no pointer: every question says "yes"
+    pub itself-accepted : 2 ≤ holds → firstNo (questions lent (row (setLeft 1 1))) ≡ 0
+    unfolding firstNo questions early earlyRow late lateRow readsNil askFree slotEmpty
+    itself-accepted h =
+        rw (
+          in-range,
+          legal,
+          is-cell,
+          packet-left,
+          waiting-none,
+          waiting-one (replace 3 1),
+          written-left n holds,
+          enough 3 left left-kind 1 h,
+          held-few 3 left left-kind 1 0 (omega arith),
+          pointers-few n 0 holds (omega arith) some few refl fits,
+        )
 
-    sound : Sound u emptyQueue
-    sound = sound-table n 0 holds (omega arith) some few refl fits
+    pub itself-gives : accepted lent (row (setLeft 1 1)) ≡ outcome (value 1) (store u (appended emptyQueue (replace 3 1)) s)
+    unfolding accepted valueOf readsNil field
+    itself-gives = rw (packet-left, written-left n holds, first-is n 0 holds .points)
 
-    only-ten : 2 ≤ holds → Only (refuses lent (row (setRight 1 1)) 10 [])
-    only-ten h = let e = noes-are true (enough 0 h) in (e, only-first lent (row (setRight 1 1)) 9 [] (inl sound) e)
+    only-itself : 2 ≤ holds → Only (gives lent (row (setLeft 1 1)) (value 1) (store u (appended emptyQueue (replace 3 1)) s))
+    only-itself h = only-decided lent (row (setLeft 1 1)) _ (inl crowded-sound) (machine-accepted lent (row (setLeft 1 1)) (itself-accepted h) ∙ itself-gives)
 
-    only-six : holds < 2 → Only (refuses lent (row (setRight 1 1)) 6 (10 ∷ []))
-    only-six h = let e = noes-are false (not-enough 0 h) in (e, only-first lent (row (setRight 1 1)) 5 (10 ∷ []) (inl sound) e)
+    -- all but questions 6 and 10 say "yes" of one that adds a pointer; where the pointers have no room for it, 10 says "no"
+    module _ (tight : ceiling < 2 + 2 * n) where
+      noes-are : (b : Bool) → heldEnough u [] (replace 6 0) ≡ b → noes (questions lent (row (setRight 1 1))) ≡ cond b (10 ∷ []) (6 ∷ 10 ∷ [])
+      unfolding noes questions early earlyRow late lateRow readsNil askFree slotEmpty
+      noes-are b h =
+          rw (in-range, legal, is-cell, packet-right, waiting-none, waiting-one (replace 6 0), written-right n holds, h, held-few 6 right right-kind 0 1 (omega arith), over tight)
+
+      only-ten : 2 ≤ holds → Only (refuses lent (row (setRight 1 1)) 10 [])
+      only-ten h = let e = noes-are true (enough 6 right right-kind 0 h) in (e, only-first lent (row (setRight 1 1)) 9 [] (inl crowded-sound) e)
+
+      only-six : holds < 2 → Only (refuses lent (row (setRight 1 1)) 6 (10 ∷ []))
+      only-six h = let e = noes-are false (not-enough 6 right right-kind 0 h) in (e, only-first lent (row (setRight 1 1)) 5 (10 ∷ []) (inl crowded-sound) e)
 
 -- the entries, with 2,047 cells beside the first
 pub pointers-only : AllOnly pointer-entries
 pointers-only = (
-  only-ten 2047 2 (omega arith) (omega arith) (omega arith) (omega arith) _ (omega arith),
-  (only-six 2047 1 (omega arith) (omega arith) (omega arith) (omega arith) _ (omega arith), tt),
+  only-ten 2047 2 (omega arith) (omega arith) (omega arith) _ (omega arith) (omega arith),
+  (
+    only-six 2047 1 (omega arith) (omega arith) (omega arith) _ (omega arith) (omega arith),
+    (only-itself 2047 2 (omega arith) (omega arith) (omega arith) _ (omega arith), tt),
+  ),
 )

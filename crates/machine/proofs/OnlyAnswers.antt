@@ -7,7 +7,7 @@ use Prim.Native.Nat.{ℕ, zero, suc, _<_}
 use native.Mathlib.Omega.{arith}
 use lib.Dec.{eqb, ltb}
 use borrow.Author.Tests.{eqb-true, ltb-true}
-use Rattle.machine.specs.Calls.{Call, fresh, row, step, audit, refused, broken, Store, readsNil}
+use Rattle.machine.specs.Calls.{Call, fresh, row, step, audit, Reply, refused, broken, Store, readsNil}
 use Rattle.machine.specs.Step.{Outcome, outcome}
 use Rattle.machine.specs.Questions.{Question, ask, inRange, firstNo, early, questions}
 use Rattle.machine.specs.Audit.{rules, auditReply, audited, Sound}
@@ -62,10 +62,15 @@ only-machine s call h r s′ p =
         let m = kept s call .asked n e in
         (g .0 ∙ sym (m .0), g .1 ∙ sym (m .1))
 
+-- so it is, where the machine gives the outcome o
+by-outcome : (s : Store) (call : Call) (o : Outcome) → machine s call ≡ o → (r : Reply) (s′ : Store) → ByMachine s call r s′ → (r ≡ o .reply) × (s′ ≡ o .after)
+by-outcome s call o e r s′ m = (m .0 ∙ ap (λ (x : Outcome). x .reply) e, m .1 ∙ ap (λ (x : Outcome). x .after) e)
+
 only-of : (s : Store) (call : Call) (o : Outcome) → isSettled s call ≡ true → machine s call ≡ o → OnlyAnswer s call (o .reply) (o .after)
-only-of s call o h e r s′ p =
-    let m = only-machine s call h r s′ p in
-    (m .0 ∙ ap (λ (x : Outcome). x .reply) e, m .1 ∙ ap (λ (x : Outcome). x .after) e)
+only-of s call o h e r s′ p = by-outcome s call o e r s′ (only-machine s call h r s′ p)
+
+pub only-decided : (s : Store) (call : Call) (o : Outcome) → Decided s call → machine s call ≡ o → OnlyAnswer s call (o .reply) (o .after)
+only-decided s call o d e r s′ p = by-outcome s call o e r s′ (gives-machine s call r s′ (p .exact d))
 
 -- the first of those that say "no"
 noes-yes : (k : Question) (ks : List Question) → k .answer ≡ true → noes (k ∷ ks) ≡ noes ks
@@ -91,10 +96,7 @@ first-of (k ∷ ks) n ns h =
 
 pub only-first : (s : Store) (call : Call) (n : ℕ) (ns : List ℕ) → Decided s call → noes (questions s call) ≡ suc n ∷ ns
     → OnlyAnswer s call (refused (suc n)) s
-only-first s call n ns d e r s′ p =
-    let g = gives-machine s call r s′ (p .exact d) in
-    let m = machine-refused s call n (first-of (questions s call) (suc n) ns e) in
-    (g .0 ∙ ap (λ (x : Outcome). x .reply) m, g .1 ∙ ap (λ (x : Outcome). x .after) m)
+only-first s call n ns d e = only-decided s call (outcome (refused (suc n)) s) d (machine-refused s call n (first-of (questions s call) (suc n) ns e))
 
 only-refused : (s : Store) (call : Call) (n : ℕ) (ns : List ℕ) → 0 < n → isSettled s call ≡ true → noes (questions s call) ≡ n ∷ ns
     → OnlyAnswer s call (refused n) s

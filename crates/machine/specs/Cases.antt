@@ -7,10 +7,8 @@ use lib.ListN.{replicate}
 use Rattle.machine.specs.declared.Queue.{Queue}
 use Rattle.machine.specs.Table.{tableLength}
 use Rattle.machine.specs.Queue.{packet, emptyQueue, appended}
-use Rattle.machine.specs.Packets.{changes}
 use Rattle.machine.specs.Calls.{Call, fresh, row, step, audit, car, cdr, cons, setLeft, setRight, up, down}
 use Rattle.machine.specs.Calls.{Reply, value, refused, idle, applied, sound, broken, Store, store}
-use Rattle.machine.specs.Step.{applyChanges}
 use Rattle.machine.specs.Machine.{run, replies}
 
 -- a store before its first fresh, its table long enough for three cells, and a used scratch of four words
@@ -154,15 +152,7 @@ nil-reads =
     ∷ walk-of-three
     ∷ []
 
--- a replace of a word by itself whose cell has 4,095 pointers: the cell count stands at 4,096 in passing and ends where it was
-abbrev pub at-ceiling : List ℕ
-at-ceiling = 1 ∷ 0 ∷ 0 ∷ 1 ∷ 0 ∷ 2 ∷ 4095 ∷ 1 ∷ []
-
-abbrev pub at-ceiling-after : List ℕ
-at-ceiling-after = 1 ∷ 0 ∷ 0 ∷ 1 ∷ 0 ∷ 1 ∷ 4095 ∷ 1 ∷ []
-
 pub record More-cases : Type 0 where
   pub replies : AllHold (values ∷ case detach-calls detach-replies ∷ protected ∷ audit-cases)
   pub nil-reads : AllHold nil-reads
   pub detach-ends : run unmade detach-calls .table ≡ detach-table
-  pub itself : applyChanges at-ceiling (changes (packet 3 1 1 1)) ≡ at-ceiling-after

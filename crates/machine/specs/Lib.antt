@@ -17,6 +17,7 @@ pub mod Promise
 pub mod AuditedSound
 pub mod Counters
 pub mod Cases
+pub mod Stages
 -- what a step's code asks before it marks: no promise speaks of it
 pub mod ShortWay
 pub mod WrongAnswers

@@ -44,13 +44,31 @@ pub record Change : Type 0 where
 abbrev change : Counter → ℕ → Direction → ℕ → Change
 change k w d n = record { counter = k; word = w; direction = d; amount = n }
 
--- "changes when taken", the last column, in its order
+-- figure 8's rrc_down, rrc_up, crc_up and crc_down, by n at once
+abbrev pub rootDown : ℕ → ℕ → Change
+rootDown w n = change root w minus n
+
+abbrev pub rootUp : ℕ → ℕ → Change
+rootUp w n = change root w plus n
+
+abbrev pub cellUp : ℕ → ℕ → Change
+cellUp w n = change cell w plus n
+
+abbrev pub cellDown : ℕ → ℕ → Change
+cellDown w n = change cell w minus n
+
+-- "changes when taken", one by one in figure 8's order (document 02, A3); in its lines x is a and y is b
 unfoldable pub changesOf : Kind → ℕ → ℕ → List Change
-changesOf reads a b = change root a minus 1 ∷ change root b plus 1 ∷ []
-changesOf makes a b = change root a minus 1 ∷ change root b minus 1 ∷ change cell a plus 1 ∷ change cell b plus 1 ∷ []
-changesOf (replaces field) a b = change root a minus 1 ∷ change cell a plus 1 ∷ change cell b minus 1 ∷ []
-changesOf raises a b = change root a plus b ∷ []
-changesOf lowers a b = change root a minus b ∷ []
+-- P1: rrc_down(x); rrc_up(y)
+changesOf reads a b = rootDown a 1 ∷ rootUp b 1 ∷ []
+-- P2: rrc_down(x); crc_up(x); rrc_down(y); crc_up(y)
+changesOf makes a b = rootDown a 1 ∷ cellUp a 1 ∷ rootDown b 1 ∷ cellUp b 1 ∷ []
+-- P3: rrc_down(x); crc_up(x); then, where the figure has rrc_down(y), the detached pointer's cell count falls, as document 01 amends it
+changesOf (replaces field) a b = rootDown a 1 ∷ cellUp a 1 ∷ cellDown b 1 ∷ []
+-- P4: for i:=1 to y do rrc_up(x)
+changesOf raises a b = rootUp a b ∷ []
+-- P5: for i:=1 to y do rrc_down(x)
+changesOf lowers a b = rootDown a b ∷ []
 changesOf unknown a b = []
 
 unfoldable pub changes : Packet → List Change

@@ -186,6 +186,8 @@ abbrev pub pointer-entries : List Entry
 pointer-entries =
     refuses (lent (crowded 2047 0 2) emptyQueue) (row (setRight 1 1)) 10 []
     ∷ refuses (lent (crowded 2047 0 1) emptyQueue) (row (setRight 1 1)) 6 (10 ∷ [])
+    -- or asked of the count in passing: a replace of the first cell by itself
+    ∷ gives (lent (crowded 2047 0 2) emptyQueue) (row (setLeft 1 1)) (value 1) (lent (crowded 2047 0 2) (only (packet 3 1 1 1)))
     ∷ []
 
 -- row calls that read, write, reply or queue another word (of the packet a, b or c), or write past the cells

@@ -29,13 +29,17 @@ pub mod ShortWay
 -- every call; nothing trimmed; the code's tests
 pub mod CallSound
 pub mod Untrimmed
+pub mod Stands
 pub mod CodeTests
 pub mod RaisedCells
 -- holds, demand 3, and that it bites
 pub mod RootsAreHolds
 pub mod Theorem
 pub mod K1
+pub mod Variants
 pub mod ShortcutsBite
+-- the order of a packet's changes moves nothing
+pub mod EitherOrder
 -- what a row programmer can rely on
 pub mod FieldsStand
 pub mod Reliable

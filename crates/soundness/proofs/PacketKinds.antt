@@ -118,7 +118,7 @@ named-snoc (q ∷ ps) p x h =
     (λ e. or-right (contains (names q) x) (named-snoc ps p x (inr e))) h
 
 -- a count run through a list of changes, and the counters of a table to which the changes are made
-pub running : Counter → ℕ → List Change → ℕ → ℕ
+unfoldable pub running : Counter → ℕ → List Change → ℕ → ℕ
 running k x [] n = n
 running k x (h ∷ hs) n = running k x hs (cond (sameCounter k (h .counter)) (shifted (h .direction) n (matching (h .word) x (h .amount))) n)
 

@@ -4,4 +4,6 @@ pub mod Reliable
 pub mod Untrimmed
 pub mod Links
 pub mod Whole
+pub mod Variants
 pub mod Shortcuts
+pub mod EitherOrder

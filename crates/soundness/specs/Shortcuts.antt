@@ -2,58 +2,23 @@
 -- with a short list of calls from fresh after which it breaks a named clause of demand 3. Proved by computation in proofs/ShortcutsBite.
 use mathlib.Core.Bool.{Bool, cond, not, _&&_, _||_}
 use mathlib.Core.List.{List, [], _∷_}
-use Prim.Native.Nat.{ℕ, zero, suc, pred, _+_, _-_, min}
+use Prim.Native.Nat.{ℕ, suc, pred, _+_, _-_, min}
 use lib.Dec.{eqb}
-use lib.ListN.{length}
 use Rattle.machine.specs.declared.Queue.{Queue}
 use Rattle.machine.specs.Range.{every, select}
 use Rattle.machine.specs.Words.{isCell, ceiling}
-use Rattle.machine.specs.Table.{rootCount, cellCount, capacity, scratchWords, wordAt, putWord, inUse}
-use Rattle.machine.specs.Queue.{Packet, taken, waiting}
+use Rattle.machine.specs.Table.{rootCount, cellCount, capacity, wordAt, putWord, inUse}
+use Rattle.machine.specs.Queue.{Packet, waiting}
 use Rattle.machine.specs.Packets.{Direction, plus, minus, Change, changes, uses}
 use Rattle.machine.specs.Counts.{heldAtLeast}
 use Rattle.machine.specs.Reached.{reached}
-use Rattle.machine.specs.Calls.{Call, fresh, row, step, audit, car, cons, setLeft, setRight, up, down, idle, applied, refused, Store, store, packetOf}
-use Rattle.machine.specs.Step.{counterWord, moveCount, applyChanges, unreached, joinAll, swept, cleared, Outcome, outcome}
-use Rattle.machine.specs.Questions.{Question, ask, firstNo, questions}
-use Rattle.machine.specs.Machine.{accepted}
+use Rattle.machine.specs.Calls.{Call, fresh, row, step, audit, car, cons, setLeft, setRight, up, down, Store, packetOf}
+use Rattle.machine.specs.Step.{counterWord, moveCount, applyChanges, unreached, joinAll, swept}
+use Rattle.machine.specs.Questions.{Question, ask, questions}
 use Rattle.machine.specs.Cases.{unmade}
 use Rattle.soundness.specs.Demand3.{Holds, tableAfter, queueAfter, holdsAfter, NoneOwed, RootsAreHolds, CellsArePointers, NoneLost, NoneLeft, ExactWhenDone, AuditsSound}
 use Rattle.soundness.specs.Links.{linksOf}
-
--- the parts in which a variant may differ from the machine
-pub record Parts : Type 0 where
-  -- the questions before a call
-  pub asks : Store → Call → List Question
-  -- the table when a packet is applied, with others waiting behind it
-  pub applies : List ℕ → Packet → List Packet → List ℕ
-  -- the cells to free, and the table when they are freed
-  pub dead : List ℕ → List Packet → List ℕ
-  pub frees : List ℕ → List ℕ → List ℕ
-
-abbrev pub rightParts : Parts
-rightParts = record { asks = questions; applies = λ t p ps. applyChanges t (changes p); dead = unreached; frees = swept }
-
-unfoldable pub stepOf : Parts → Store → List Packet → Outcome
-stepOf m s [] = outcome idle s
-stepOf m s (p ∷ ps) =
-    let t = m .applies (s .table) p ps in
-    let d = m .dead t ps in
-    outcome (applied (p .kind) (length d)) (store (m .frees t d) (taken (s .queue)) (cleared (scratchWords (capacity t)) (s .scratch)))
-
-unfoldable pub acceptedOf : Parts → Store → Call → Outcome
-acceptedOf m s (fresh c) = accepted s (fresh c)
-acceptedOf m s (row r) = accepted s (row r)
-acceptedOf m s step = stepOf m s (waiting (s .queue))
-acceptedOf m s audit = accepted s audit
-
-unfoldable pub answeredOf : Parts → ℕ → Store → Call → Outcome
-answeredOf m zero s call = acceptedOf m s call
-answeredOf m (suc n) s call = outcome (refused (suc n)) s
-
--- the machine made of the parts
-unfoldable pub machineOf : Parts → Store → Call → Outcome
-machineOf m s call = answeredOf m (firstNo (m .asks s call)) s call
+use Rattle.soundness.specs.Variants.{Parts, applying, machineOf}
 
 -- a list of calls breaks a clause under a variant
 abbrev pub Breaks : Parts → List Call → (List ℕ → Queue → (ℕ → Holds) → Type 0) → Type 0
@@ -93,7 +58,7 @@ applyEager t (h ∷ hs) =
     applyEager (swept u (select (capacity u) (λ i. inUse u i && eqb (wordAt u i rootCount) 0 && eqb (wordAt u i cellCount) 0))) hs
 
 abbrev pub namedAsDead : Parts
-namedAsDead = record { asks = questions; applies = λ t p ps. applyEager t (changes p); dead = unreached; frees = swept }
+namedAsDead = applying (λ t p ps. applyEager t (changes p))
 
 -- cell 1 goes from a hold to cell 2, and is read from there: that packet waits and names it while its root count has fallen and its cell count
 -- has not risen yet
@@ -108,7 +73,7 @@ applyParted t k (h ∷ hs) ps =
     applyChanges (cond (eqb k 1) (swept u (unreached u ps)) u) hs
 
 abbrev pub freedInBetween : Parts
-freedInBetween = record { asks = questions; applies = λ t p ps. applyParted t (p .kind) (changes p) ps; dead = unreached; frees = swept }
+freedInBetween = applying (λ t p ps. applyParted t (p .kind) (changes p) ps)
 
 -- the word read is reached through x alone
 abbrev pub freedInBetween-calls : List Call

@@ -5,14 +5,15 @@ use mathlib.Core.Bool.{true}
 use mathlib.Core.List.{List, [], _∷_, append-nil}
 use Prim.Native.Nat.{ℕ, zero, suc, pred, _≤_, _<_}
 use native.Mathlib.Omega.{arith}
-use lib.ListN.{length}
+use lib.ListN.{length, take}
 use Rattle.machine.specs.declared.Queue.{Queue}
-use Rattle.machine.specs.Words.{isCell, ceiling}
+use Rattle.machine.specs.Words.{isCell}
 use Rattle.machine.specs.Table.{capacity, tableLength, wordAt}
-use Rattle.machine.specs.Queue.{Packet, packetsFrom, waiting, taken}
-use Rattle.machine.specs.Packets.{Counter, root, cell, Change, changes}
+use Rattle.machine.specs.Queue.{packetsFrom, waiting, taken}
+use Rattle.machine.specs.Packets.{Counter, Change, changes}
 use Rattle.machine.specs.Calls.{step, idle, Store, store}
-use Rattle.machine.specs.Step.{counterWord, shifted, moveCount, Outcome, outcome, stepFrom, stepped}
+use Rattle.machine.specs.Step.{counterWord, shifted, moveCount, applyChanges, Outcome, outcome, stepFrom, stepped}
+use Rattle.machine.specs.Stages.{stage}
 use Rattle.machine.specs.Questions.{firstNo, early, late, questions}
 use Rattle.machine.specs.Audit.{Sound}
 use Rattle.machine.specs.Machine.{accepted, machine}
@@ -24,31 +25,34 @@ use Rattle.machine.proofs.Moves.{length-move, capacity-move, count-move}
 use Rattle.machine.proofs.Ring.{waiting-taken}
 use Rattle.machine.proofs.Questions.{shape-is}
 use Rattle.machine.proofs.Kept.{machine-accepted, machine-refused}
-use Rattle.soundness.specs.Untrimmed.{Passes, AllPass}
 use Rattle.soundness.proofs.Untrimmed.{untrimmed}
 use Rattle.soundness.proofs.ShortWay.{nothing-freed}
 use Rattle.collector.specs.declared.Stepped.{Stepped}
 use Rattle.collector.specs.Changes.{ChangesFit}
 use Rattle.collector.specs.Steps.{oldest, Premises, Steps}
 
--- a count at most one past the ceiling fits a word
-count-fits : (p : Packet) (h : Change) (t u : List ℕ) → Passes p h t u → (k : Counter) (i : ℕ) → i < capacity t → wordAt u i (counterWord k) < 65536
-count-fits p h t u a root i l = omega (arith, a .roots i l)
-count-fits p h t u a cell i l = ⊎-elim (λ m. omega arith) (λ e. omega (arith, e .0)) (a .cells i l)
-
-passes-fit : (p : Packet) (t : List ℕ) (hs : List Change) → tableLength (capacity t) ≤ length t → AllPass p t hs → ChangesFit t hs
-passes-fit p t [] f a = tt
-passes-fit p t (h ∷ hs) f a = (here, passes-fit p u hs (rw (capacity-move t (h .counter) (h .word) (h .direction) (h .amount), length-move t (h .counter) (h .word) (h .direction) (h .amount)) f) (a .1))
+-- a table whose counts stand within a word after each of the changes fits them
+stages-fit : (t : List ℕ) (hs : List Change) → tableLength (capacity t) ≤ length t
+    → ((n : ℕ) (k : Counter) (i : ℕ) → i < capacity t → wordAt (applyChanges t (take n hs)) i (counterWord k) < 65536) → ChangesFit t hs
+unfolding applyChanges
+stages-fit t [] f a = tt
+stages-fit t (h ∷ hs) f a = (here, stages-fit u hs (rw (same, length-move t (h .counter) (h .word) (h .direction) (h .amount)) f) rest)
   where
     u : List ℕ
     u = moveCount t (h .counter) (h .word) (h .direction) (h .amount)
+
+    same : capacity u ≡ capacity t
+    same = capacity-move t (h .counter) (h .word) (h .direction) (h .amount)
+
+    rest : (n : ℕ) (k : Counter) (i : ℕ) → i < capacity u → wordAt (applyChanges u (take n hs)) i (counterWord k) < 65536
+    rest n k i l = a (suc n) k i (rw same at l)
 
     here : isCell (capacity t) (h .word) ≡ true → shifted (h .direction) (wordAt t (pred (h .word)) (counterWord (h .counter))) (h .amount) < 65536
     here c =
         let l = cell-index (capacity t) (h .word) c in
         let e = count-move t (h .counter) (h .word) (h .direction) (h .amount) f (pred (h .word)) l in
         let m = matching-same (h .word) (suc (pred (h .word))) (h .amount) (cell-number (capacity t) (h .word) c) in
-        rw (e ∙ ap (shifted (h .direction) (wordAt t (pred (h .word)) (counterWord (h .counter)))) m) at (count-fits p h t u (a .0) (h .counter) (pred (h .word)) l)
+        rw (e ∙ ap (shifted (h .direction) (wordAt t (pred (h .word)) (counterWord (h .counter)))) m) at (a 1 (h .counter) (pred (h .word)) l)
 
 -- a sound store with a packet waiting meets the step's premises
 premises : (t : List ℕ) (q : Queue) → Sound t q → 0 < q .count → Premises t q
@@ -56,7 +60,8 @@ premises t q s l =
     let shape = shape-is t q (s .shape) in
     let first = waiting-taken q (pred (q .count)) (shape .queue .place) (shape .queue .count) (omega arith) in
     record {
-      fit = passes-fit (oldest q) t (changes (oldest q)) (shape .table .room) (untrimmed t q (oldest q) (waiting (taken q)) s first .passing);
+      fit = stages-fit t (changes (oldest q)) (shape .table .room)
+          (λ n k i m. unfold stage in omega (arith, untrimmed t q (oldest q) (waiting (taken q)) s first .passing n k i m));
       still = nothing-freed t q (oldest q) (waiting (taken q)) s first;
     }
 

@@ -8,38 +8,38 @@ use Rattle.collector.proofs.Changes.{made-none, made-more, applied}
 use Rattle.collector.proofs.counts.apply.Statement.{statement}
 use Rattle.collector.proofs.counts.apply.Tie as tie
 
-lower-root-requires : tie.Need-lower-root-requires
-lower-root-requires c κs = search needs
+root-down-requires : tie.Need-root-down-requires
+root-down-requires c κs = search needs
 
-raise-root-requires : tie.Need-raise-root-requires
-raise-root-requires c κs = search needs
+root-up-requires : tie.Need-root-up-requires
+root-up-requires c κs = search needs
 
-lower-root-requires-2 : tie.Need-lower-root-requires-2
-lower-root-requires-2 c κs = search needs
+root-down-requires-2 : tie.Need-root-down-requires-2
+root-down-requires-2 c κs = search needs
 
-lower-root-requires-3 : tie.Need-lower-root-requires-3
-lower-root-requires-3 c κs = search needs
+cell-up-requires : tie.Need-cell-up-requires
+cell-up-requires c κs = search needs
 
-raise-cell-requires : tie.Need-raise-cell-requires
-raise-cell-requires c κs = search needs
+root-down-requires-3 : tie.Need-root-down-requires-3
+root-down-requires-3 c κs = search needs
 
-raise-cell-requires-2 : tie.Need-raise-cell-requires-2
-raise-cell-requires-2 c κs = search needs
+cell-up-requires-2 : tie.Need-cell-up-requires-2
+cell-up-requires-2 c κs = search needs
 
-lower-root-requires-4 : tie.Need-lower-root-requires-4
-lower-root-requires-4 c κs = search needs
+root-down-requires-4 : tie.Need-root-down-requires-4
+root-down-requires-4 c κs = search needs
 
-raise-cell-requires-3 : tie.Need-raise-cell-requires-3
-raise-cell-requires-3 c κs = search needs
+cell-up-requires-3 : tie.Need-cell-up-requires-3
+cell-up-requires-3 c κs = search needs
 
-lower-cell-requires : tie.Need-lower-cell-requires
-lower-cell-requires c κs = search needs
+cell-down-requires : tie.Need-cell-down-requires
+cell-down-requires c κs = search needs
 
-raise-root-requires-2 : tie.Need-raise-root-requires-2
-raise-root-requires-2 c κs = search needs
+root-up-requires-2 : tie.Need-root-up-requires-2
+root-up-requires-2 c κs = search needs
 
-lower-root-requires-5 : tie.Need-lower-root-requires-5
-lower-root-requires-5 c κs = search needs
+root-down-requires-5 : tie.Need-root-down-requires-5
+root-down-requires-5 c κs = search needs
 
 same-length : tie.Need-same-length
 same-length c = search needs
@@ -47,13 +47,13 @@ same-length c = search needs
 returns : tie.Need-returns
 unfolding kindOf changesOf
 returns c =
-    let at-raise = c .before .before in
-    let at-lower = at-raise .before .before .before .before in
-    let at-match = at-lower .before .before in
+    let at-up = c .before .before in
+    let at-down = at-up .before .before .before .before in
+    let at-match = at-down .before .before in
     let start = at-match .before .before in
     let i = start .args in
     applied (i .table .now) _ (i .kind) (i .a) (i .b) reads (ap kindOf (at-match .match .keys1))
-    (made-more _ _ _ _ _ (at-lower .lower-root .ensures) (made-more _ _ _ _ _ (at-raise .raise-root .ensures) (made-none _)))
+    (made-more _ _ _ _ _ (at-down .root-down .ensures) (made-more _ _ _ _ _ (at-up .root-up .ensures) (made-none _)))
 
 same-length-2 : tie.Need-same-length-2
 same-length-2 c = search needs
@@ -61,16 +61,16 @@ same-length-2 c = search needs
 returns-2 : tie.Need-returns-2
 unfolding kindOf changesOf
 returns-2 c =
-    let at-raise2 = c .before .before in
-    let at-raise = at-raise2 .before .before .before .before in
-    let at-lower2 = at-raise .before .before .before .before in
-    let at-lower = at-lower2 .before .before .before .before in
-    let at-match = at-lower .before .before in
+    let at-up2 = c .before .before in
+    let at-down2 = at-up2 .before .before .before .before in
+    let at-up = at-down2 .before .before .before .before in
+    let at-down = at-up .before .before .before .before in
+    let at-match = at-down .before .before in
     let start = at-match .before .before in
     let i = start .args in
     applied (i .table .now) _ (i .kind) (i .a) (i .b) makes (ap kindOf (at-match .match .keys2))
-    (made-more _ _ _ _ _ (at-lower .lower-root2 .ensures) (made-more _ _ _ _ _ (at-lower2 .lower-root3 .ensures)
-    (made-more _ _ _ _ _ (at-raise .raise-cell .ensures) (made-more _ _ _ _ _ (at-raise2 .raise-cell2 .ensures) (made-none _)))))
+    (made-more _ _ _ _ _ (at-down .root-down2 .ensures) (made-more _ _ _ _ _ (at-up .cell-up .ensures)
+    (made-more _ _ _ _ _ (at-down2 .root-down3 .ensures) (made-more _ _ _ _ _ (at-up2 .cell-up2 .ensures) (made-none _)))))
 
 same-length-3 : tie.Need-same-length-3
 same-length-3 c = search needs
@@ -78,18 +78,18 @@ same-length-3 c = search needs
 returns-3 : tie.Need-returns-3
 unfolding kindOf changesOf
 returns-3 c =
-    let at-lower = c .before .before in
-    let at-raise = at-lower .before .before .before .before in
-    let at-root = at-raise .before .before .before .before in
-    let at-match = at-root .before .before in
+    let at-last = c .before .before in
+    let at-up = at-last .before .before .before .before in
+    let at-down = at-up .before .before .before .before in
+    let at-match = at-down .before .before in
     let start = at-match .before .before in
     let i = start .args in
     ⊎-elim (λ e. applied (i .table .now) _ (i .kind) (i .a) (i .b) (replaces left) (ap kindOf e)
-    (made-more _ _ _ _ _ (at-root .lower-root4 .ensures)
-    (made-more _ _ _ _ _ (at-raise .raise-cell3 .ensures) (made-more _ _ _ _ _ (at-lower .lower-cell .ensures) (made-none _)))))
+    (made-more _ _ _ _ _ (at-down .root-down4 .ensures)
+    (made-more _ _ _ _ _ (at-up .cell-up3 .ensures) (made-more _ _ _ _ _ (at-last .cell-down .ensures) (made-none _)))))
     (λ e. applied (i .table .now) _ (i .kind) (i .a) (i .b) (replaces right) (ap kindOf e)
-    (made-more _ _ _ _ _ (at-root .lower-root4 .ensures)
-    (made-more _ _ _ _ _ (at-raise .raise-cell3 .ensures) (made-more _ _ _ _ _ (at-lower .lower-cell .ensures) (made-none _)))))
+    (made-more _ _ _ _ _ (at-down .root-down4 .ensures)
+    (made-more _ _ _ _ _ (at-up .cell-up3 .ensures) (made-more _ _ _ _ _ (at-last .cell-down .ensures) (made-none _)))))
     (at-match .match .keys3)
 
 same-length-4 : tie.Need-same-length-4
@@ -98,12 +98,12 @@ same-length-4 c = search needs
 returns-4 : tie.Need-returns-4
 unfolding kindOf changesOf
 returns-4 c =
-    let at-raise = c .before .before in
-    let at-match = at-raise .before .before in
+    let at-up = c .before .before in
+    let at-match = at-up .before .before in
     let start = at-match .before .before in
     let i = start .args in
     applied (i .table .now) _ (i .kind) (i .a) (i .b) raises (ap kindOf (at-match .match .keys4))
-    (made-more _ _ _ _ _ (at-raise .raise-root2 .ensures) (made-none _))
+    (made-more _ _ _ _ _ (at-up .root-up2 .ensures) (made-none _))
 
 same-length-5 : tie.Need-same-length-5
 same-length-5 c = search needs
@@ -111,12 +111,12 @@ same-length-5 c = search needs
 returns-5 : tie.Need-returns-5
 unfolding kindOf changesOf
 returns-5 c =
-    let at-lower = c .before .before in
-    let at-match = at-lower .before .before in
+    let at-down = c .before .before in
+    let at-match = at-down .before .before in
     let start = at-match .before .before in
     let i = start .args in
     applied (i .table .now) _ (i .kind) (i .a) (i .b) lowers (ap kindOf (at-match .match .keys5))
-    (made-more _ _ _ _ _ (at-lower .lower-root5 .ensures) (made-none _))
+    (made-more _ _ _ _ _ (at-down .root-down5 .ensures) (made-none _))
 
 returns-6 : tie.Need-returns-6
 unfolding changesOf
@@ -130,17 +130,17 @@ pub apply-spec : {M : Type 1} → statement M
 apply-spec =
     tie.close
     (tie.spec
-    lower-root-requires
-    raise-root-requires
-    lower-root-requires-2
-    lower-root-requires-3
-    raise-cell-requires
-    raise-cell-requires-2
-    lower-root-requires-4
-    raise-cell-requires-3
-    lower-cell-requires
-    raise-root-requires-2
-    lower-root-requires-5
+    root-down-requires
+    root-up-requires
+    root-down-requires-2
+    cell-up-requires
+    root-down-requires-3
+    cell-up-requires-2
+    root-down-requires-4
+    cell-up-requires-3
+    cell-down-requires
+    root-up-requires-2
+    root-down-requires-5
     same-length
     returns
     same-length-2

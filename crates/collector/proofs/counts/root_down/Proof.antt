@@ -1,11 +1,12 @@
-use mathlib.Core.Path.{refl}
+use mathlib.Core.Path.{refl, ap, _∙_}
+use Prim.Native.Nat.{_-_}
 use native.Mathlib.Omega.{arith}
 use borrow.Author.Needs.{needs}
 use Rattle.machine.specs.Packets.{root}
-use Rattle.collector.proofs.Changes.{moves-raised, moves-none}
+use Rattle.collector.proofs.Changes.{moves-lowered, moves-none}
 use Rattle.marks.proofs.Cells.{told, bounds}
-use Rattle.collector.proofs.counts.raise_root.Statement.{statement}
-use Rattle.collector.proofs.counts.raise_root.Tie as tie
+use Rattle.collector.proofs.counts.root_down.Statement.{statement}
+use Rattle.collector.proofs.counts.root_down.Tie as tie
 
 capacity-of-requires : tie.Need-capacity-of-requires
 capacity-of-requires c κs = search needs
@@ -24,8 +25,8 @@ root-count-requires c κs =
     let at-capacity-of = c .before .before .before in
     let b = bounds _ _ (told _ (at-capacity-of .capacity-of .ensures) (c .before .before .is-cell .ensures) (c .before .if1 .taken)) in omega arith
 
-raised-requires : tie.Need-raised-requires
-raised-requires c κs = search needs
+lowered-requires : tie.Need-lowered-requires
+lowered-requires c κs = search needs
 
 set-root-count-requires : tie.Need-set-root-count-requires
 set-root-count-requires c κs =
@@ -39,16 +40,16 @@ same-length c = search needs
 
 returns : tie.Need-returns
 returns c =
-    let at-raised = c .before .before .before in
-    let at-root-count = at-raised .before .before in
+    let at-lowered = c .before .before .before in
+    let at-root-count = at-lowered .before .before in
     let at-if1 = at-root-count .before .before in
     let at-is-cell = at-if1 .before in
     let at-capacity-of = at-is-cell .before in
     let start = at-capacity-of .before .before .before in
     let i = start .args in
-    moves-raised (i .table .now) root (i .w) (i .n) _ _
+    moves-lowered (i .table .now) root (i .w) (i .n) _ _
     (told _ (at-capacity-of .capacity-of .ensures) (at-is-cell .is-cell .ensures) (at-if1 .if1 .taken)) refl
-    (rw (at-root-count .root-count .ensures) at (at-raised .raised .ensures)) _ (c .before .before .set-root-count .ensures)
+    (at-lowered .lowered .ensures ∙ ap (_- (start .args .n)) (at-root-count .root-count .ensures)) _ (c .before .before .set-root-count .ensures)
 
 same-length-2 : tie.Need-same-length-2
 same-length-2 c = search needs
@@ -56,8 +57,8 @@ same-length-2 c = search needs
 returns-2 : tie.Need-returns-2
 returns-2 c = moves-none _ root _ _ _ (told _ (c .before .before .capacity-of .ensures) (c .before .is-cell .ensures) (c .if1 .left))
 
-pub raise-root-spec : {M : Type 1} → statement M
-raise-root-spec =
+pub root-down-spec : {M : Type 1} → statement M
+root-down-spec =
     tie.close
     (tie.spec
     capacity-of-requires
@@ -65,7 +66,7 @@ raise-root-spec =
     sub-index
     cast-index
     root-count-requires
-    raised-requires
+    lowered-requires
     set-root-count-requires
     same-length
     returns

@@ -4,8 +4,8 @@ use borrow.Author.Needs.{needs}
 use Rattle.machine.specs.Packets.{cell}
 use Rattle.collector.proofs.Changes.{moves-raised, moves-none}
 use Rattle.marks.proofs.Cells.{told, bounds}
-use Rattle.collector.proofs.counts.raise_cell.Statement.{statement}
-use Rattle.collector.proofs.counts.raise_cell.Tie as tie
+use Rattle.collector.proofs.counts.cell_up.Statement.{statement}
+use Rattle.collector.proofs.counts.cell_up.Tie as tie
 
 capacity-of-requires : tie.Need-capacity-of-requires
 capacity-of-requires c κs = search needs
@@ -56,8 +56,8 @@ same-length-2 c = search needs
 returns-2 : tie.Need-returns-2
 returns-2 c = moves-none _ cell _ _ _ (told _ (c .before .before .capacity-of .ensures) (c .before .is-cell .ensures) (c .if1 .left))
 
-pub raise-cell-spec : {M : Type 1} → statement M
-raise-cell-spec =
+pub cell-up-spec : {M : Type 1} → statement M
+cell-up-spec =
     tie.close
     (tie.spec
     capacity-of-requires

@@ -1,0 +1,49 @@
+-- Variants of the machine, made of parts in which they may differ from it.
+use mathlib.Core.List.{List, [], _∷_}
+use Prim.Native.Nat.{ℕ, zero, suc}
+use lib.ListN.{length}
+use Rattle.machine.specs.Table.{capacity, scratchWords}
+use Rattle.machine.specs.Queue.{Packet, taken, waiting}
+use Rattle.machine.specs.Packets.{changes}
+use Rattle.machine.specs.Calls.{Call, fresh, row, step, audit, idle, applied, refused, Store, store}
+use Rattle.machine.specs.Step.{applyChanges, unreached, swept, cleared, Outcome, outcome}
+use Rattle.machine.specs.Questions.{Question, firstNo, questions}
+use Rattle.machine.specs.Machine.{accepted}
+
+-- the parts in which a variant may differ from the machine
+pub record Parts : Type 0 where
+  -- the questions before a call
+  pub asks : Store → Call → List Question
+  -- the table when a packet is applied, with others waiting behind it
+  pub applies : List ℕ → Packet → List Packet → List ℕ
+  -- the cells to free, and the table when they are freed
+  pub dead : List ℕ → List Packet → List ℕ
+  pub frees : List ℕ → List ℕ → List ℕ
+
+-- the machine's own, but for how a packet is applied; and with that, too
+abbrev pub applying : (List ℕ → Packet → List Packet → List ℕ) → Parts
+applying f = record { asks = questions; applies = f; dead = unreached; frees = swept }
+
+abbrev pub rightParts : Parts
+rightParts = applying (λ t p ps. applyChanges t (changes p))
+
+unfoldable pub stepOf : Parts → Store → List Packet → Outcome
+stepOf m s [] = outcome idle s
+stepOf m s (p ∷ ps) =
+    let t = m .applies (s .table) p ps in
+    let d = m .dead t ps in
+    outcome (applied (p .kind) (length d)) (store (m .frees t d) (taken (s .queue)) (cleared (scratchWords (capacity t)) (s .scratch)))
+
+unfoldable pub acceptedOf : Parts → Store → Call → Outcome
+acceptedOf m s (fresh c) = accepted s (fresh c)
+acceptedOf m s (row r) = accepted s (row r)
+acceptedOf m s step = stepOf m s (waiting (s .queue))
+acceptedOf m s audit = accepted s audit
+
+unfoldable pub answeredOf : Parts → ℕ → Store → Call → Outcome
+answeredOf m zero s call = acceptedOf m s call
+answeredOf m (suc n) s call = outcome (refused (suc n)) s
+
+-- the machine made of the parts
+unfoldable pub machineOf : Parts → Store → Call → Outcome
+machineOf m s call = answeredOf m (firstNo (m .asks s call)) s call
