@@ -1,4 +1,4 @@
-//! The collector step: apply the oldest packet, then mark and sweep.
+//! The collector step: make the oldest packet's changes, then mark and sweep.
 
 use crate::question::{self, Refusal};
 use crate::queue::{self, Packet, Queue};
@@ -16,7 +16,7 @@ pub fn step(table: &mut [u16], queue: &mut Queue, scratch: &mut [u16]) -> Result
         return Ok(Step::Idle);
     };
     let marks = &mut scratch[..cells as usize];
-    apply(table, cells, packet);
+    changes(packet, |change| add(table, cells, change));
     mark(table, queue, marks);
     let freed = sweep(table, marks);
     marks.fill(0);
@@ -26,37 +26,71 @@ pub fn step(table: &mut [u16], queue: &mut Queue, scratch: &mut [u16]) -> Result
     })
 }
 
-/// Adds to one count of a cell; nil and atoms have no counts. Wrapping, since
-/// on a damaged store a count can be anything.
-fn add(table: &mut [u16], cells: u16, word: u16, count: usize, change: i16) {
-    if is_cell(word, cells) {
-        let count = &mut table[at(word) + count];
-        *count = count.wrapping_add_signed(change);
+/// One change to one count of a word.
+#[derive(Clone, Copy, Debug, PartialEq, Eq, PartialOrd, Ord)]
+pub struct Change {
+    pub word: u16,
+    /// `ROOT_COUNT` or `CELL_COUNT`.
+    pub count: usize,
+    pub by: i32,
+}
+
+fn root(word: u16, by: i32) -> Change {
+    Change {
+        word,
+        count: ROOT_COUNT,
+        by,
     }
 }
 
-/// Makes a packet's count changes, in the order in which its kind lists them.
-fn apply(table: &mut [u16], cells: u16, packet: Packet) {
+fn cell(word: u16, by: i32) -> Change {
+    Change {
+        word,
+        count: CELL_COUNT,
+        by,
+    }
+}
+
+/// Gives a packet's count changes one by one, in figure 8's order (A3). The
+/// figure's x and y are a and b. Cells are freed only after the last change:
+/// between those of a read, the cell read may be reached by nothing.
+pub fn changes(packet: Packet, mut make: impl FnMut(Change)) {
     let Packet { kind, a, b, .. } = packet;
     match kind {
+        // P1: rrc_down(x); rrc_up(y).
         queue::READ => {
-            add(table, cells, a, ROOT_COUNT, -1);
-            add(table, cells, b, ROOT_COUNT, 1);
+            make(root(a, -1));
+            make(root(b, 1));
         }
+        // P2: rrc_down(x); crc_up(x); rrc_down(y); crc_up(y).
         queue::CONS => {
-            for operand in [a, b] {
-                add(table, cells, operand, ROOT_COUNT, -1);
-                add(table, cells, operand, CELL_COUNT, 1);
-            }
+            make(root(a, -1));
+            make(cell(a, 1));
+            make(root(b, -1));
+            make(cell(b, 1));
         }
+        // P3: rrc_down(x); crc_up(x); rrc_down(y), where document 01 corrects the
+        // last to crc_down(y). A cell put in where it stood with a cell count of
+        // 4,095 has 4,096 in passing.
         queue::REPLACE_LEFT | queue::REPLACE_RIGHT => {
-            add(table, cells, a, ROOT_COUNT, -1);
-            add(table, cells, a, CELL_COUNT, 1);
-            add(table, cells, b, CELL_COUNT, -1);
+            make(root(a, -1));
+            make(cell(a, 1));
+            make(cell(b, -1));
         }
-        queue::UP => add(table, cells, a, ROOT_COUNT, b as i16),
-        queue::DOWN => add(table, cells, a, ROOT_COUNT, (b as i16).wrapping_neg()),
+        // P4 and P5, with the y rounds of their loops at one stroke.
+        queue::UP => make(root(a, i32::from(b))),
+        queue::DOWN => make(root(a, -i32::from(b))),
         _ => {}
+    }
+}
+
+/// Makes one change; nil and atoms have no counts. Wrapping, since on a damaged
+/// store a count can be anything.
+fn add(table: &mut [u16], cells: u16, change: Change) {
+    let Change { word, count, by } = change;
+    if is_cell(word, cells) {
+        let count = &mut table[at(word) + count];
+        *count = (i32::from(*count) + by) as u16;
     }
 }
 
@@ -130,7 +164,7 @@ fn sweep(table: &mut [u16], marks: &[u16]) -> u16 {
             // An unmarked child is freed in this sweep too, and then has no
             // counts to lower.
             if is_cell(child, cells) && marks[child as usize - 1] != 0 {
-                add(table, cells, child, CELL_COUNT, -1);
+                add(table, cells, cell(child, -1));
             }
         }
         append_free(table, x);

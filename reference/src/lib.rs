@@ -1,8 +1,8 @@
 //! The reference machine of the row controller's cell store, written from the
 //! papers alone: table, packet queue, row calls, collector step, audit, the
 //! session program, the load program (request A2 of document 02), a runner for
-//! lists of stores, and generators. Document 01 is here what request A1 makes
-//! of it.
+//! lists of stores, and generators. Document 01 is here what requests A1 and A3
+//! make of it.
 
 pub mod annotate;
 pub mod audit;

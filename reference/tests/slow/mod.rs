@@ -74,13 +74,15 @@ fn put_cells(store: &mut Store, model: &Model) {
 }
 
 #[derive(Clone, Copy, PartialEq, Eq)]
-enum Sort {
+pub enum Sort {
     Root,
     Cell,
 }
 
-/// The last column of the packet table.
-fn changes(packet: Packet) -> Vec<(Sort, u16, i64)> {
+/// The last column of the packet table, from left to right. Figure 8's order
+/// (A3), which the fast machine has, is another for cons: where the two agree,
+/// the order doesn't show.
+pub fn changes(packet: Packet) -> Vec<(Sort, u16, i64)> {
     let [kind, a, b, _] = packet;
     match kind {
         1 => vec![(Sort::Root, a, -1), (Sort::Root, b, 1)],
