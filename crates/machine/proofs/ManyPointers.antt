@@ -1,4 +1,4 @@
--- Question 10 at a crowded table: what the questions say of a replace that would add one pointer.
+-- Question 10 at a crowded table: what the questions say of a replace that would add one pointer, and of one that adds none.
 use mathlib.Core.Path.{_≡_, refl, ap₂, _∙_}
 use mathlib.Core.Logic.{inl}
 use mathlib.Core.Bool.{Bool, true, false, cond, _||_}
