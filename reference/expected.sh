@@ -40,7 +40,7 @@ make() {
     shift
     case $kind in
     generate) "$reference" generate "$@" ;;
-    session | states | load)
+    session | states | text | load | rules)
         for input in "$@"; do
             "$reference" "$kind" <"$input" || return 1
         done

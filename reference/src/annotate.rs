@@ -4,6 +4,7 @@
 use std::io::{self, Read, Write};
 
 use crate::format::{encode, write_line, Line, Reader};
+use crate::session;
 use crate::states::Runner;
 
 pub fn run(codes: Codes, mut input: impl Read, mut output: impl Write) -> io::Result<()> {
@@ -23,6 +24,13 @@ pub fn run(codes: Codes, mut input: impl Read, mut output: impl Write) -> io::Re
                     letter = 'U';
                 }
             }
+            Line::Text(call, _) if !codes.contain(call.code()) => continue,
+            Line::Text(call, sort) => {
+                let answer = runner.text(&call, sort);
+                if answer.map_err(|what| reader.error(what))?.is_none() {
+                    letter = 'U';
+                }
+            }
         }
         write_line(&mut output, letter, reader.numbers())?;
         writeln!(output)?;
@@ -35,7 +43,7 @@ pub fn run(codes: Codes, mut input: impl Read, mut output: impl Write) -> io::Re
 pub struct Codes([bool; Codes::COUNT]);
 
 impl Codes {
-    const COUNT: usize = 10;
+    const COUNT: usize = 12;
     pub const ALL: Codes = Codes([true; Codes::COUNT]);
 
     /// Reads codes and ranges of codes with commas between, such as `0-7,9`.
@@ -58,8 +66,6 @@ impl Codes {
 }
 
 fn code(text: &str) -> Option<usize> {
-    match text.as_bytes() {
-        [digit @ b'0'..=b'9'] => Some(usize::from(digit - b'0')),
-        _ => None,
-    }
+    let code = usize::from(session::parse_operand(text.as_bytes())?);
+    (code < Codes::COUNT).then_some(code)
 }

@@ -5,11 +5,16 @@ use std::io::{self, Write};
 use crate::call::Call;
 use crate::queue::{Packet, Queue};
 use crate::store::Store;
+use crate::text_call::TextCall;
+
+/// The longest table, scratch, text or buffer.
+const MAX_LENGTH: usize = 1 << 24;
 
 pub enum Line {
     Title,
     Lent(Lent),
     Call(Call, Sort),
+    Text(TextCall, Sort),
 }
 
 /// What the calls after it work on.
@@ -87,9 +92,32 @@ impl<'a> Reader<'a> {
     }
 
     fn call(&mut self, sort: Sort) -> io::Result<Line> {
-        let (code, p, q) = (self.word()?, self.word()?, self.word()?);
+        let code = self.word()?;
+        if code == TextCall::READ {
+            let text = self.text()?;
+            return Ok(Line::Text(TextCall::Read(text), sort));
+        }
+        if code == TextCall::WRITE {
+            let call = TextCall::Write {
+                word: self.word()?,
+                length: self.number(MAX_LENGTH)?,
+                fill: self.byte()?,
+            };
+            return Ok(Line::Text(call, sort));
+        }
+        let (p, q) = (self.word()?, self.word()?);
         let call = decode(code, p, q).ok_or_else(|| self.error("no such call"))?;
         Ok(Line::Call(call, sort))
+    }
+
+    /// A length and as many bytes.
+    fn text(&mut self) -> io::Result<Vec<u8>> {
+        let length = self.number(MAX_LENGTH)?;
+        (0..length).map(|_| self.byte()).collect()
+    }
+
+    fn byte(&mut self) -> io::Result<u8> {
+        Ok(self.number(u8::MAX as usize)? as u8)
     }
 
     fn skip_space(&mut self) {
@@ -130,7 +158,7 @@ impl<'a> Reader<'a> {
 
     /// Length, number of runs, then each run's length and word.
     fn runs(&mut self) -> io::Result<Vec<u16>> {
-        let length = self.number(1 << 24)?;
+        let length = self.number(MAX_LENGTH)?;
         let runs = self.number(length)?;
         let mut words = Vec::with_capacity(length);
         for _ in 0..runs {
@@ -220,6 +248,22 @@ pub fn write_call(output: &mut impl Write, call: Call, brief: bool) -> io::Resul
     writeln!(output, "{letter} {code} {p} {q}")
 }
 
+/// A text call's line, whole or brief.
+pub fn write_text_call(output: &mut impl Write, call: &TextCall, brief: bool) -> io::Result<()> {
+    let letter = if brief { 'B' } else { 'C' };
+    write!(output, "{letter} {}", call.code())?;
+    match call {
+        TextCall::Read(text) => {
+            write!(output, " {}", text.len())?;
+            for byte in text {
+                write!(output, " {byte}")?;
+            }
+        }
+        TextCall::Write { word, length, fill } => write!(output, " {word} {length} {fill}")?,
+    }
+    writeln!(output)
+}
+
 /// The T, Q and S lines of a store.
 pub fn write_store(output: &mut impl Write, store: &Store) -> io::Result<()> {
     write_runs(output, 'T', &store.table)?;
@@ -238,6 +282,12 @@ pub fn write_store(output: &mut impl Write, store: &Store) -> io::Result<()> {
     }
     writeln!(output)?;
     write_runs(output, 'S', &store.scratch)
+}
+
+/// The F line of a buffer.
+pub fn write_buffer(output: &mut impl Write, buffer: &[u8]) -> io::Result<()> {
+    let bytes: Vec<u16> = buffer.iter().map(|&byte| byte.into()).collect();
+    write_runs(output, 'F', &bytes)
 }
 
 fn write_runs(output: &mut impl Write, letter: char, words: &[u16]) -> io::Result<()> {

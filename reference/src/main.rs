@@ -2,10 +2,10 @@ use std::io::{self, BufReader, BufWriter};
 use std::process::ExitCode;
 
 use reference::annotate::{self, Codes};
-use reference::{generate, load, session, states};
+use reference::{generate, load, rules, session, states};
 
 const USAGE: &str =
-    "usage: reference session | load | states | annotate [CODES] | generate SEED ...";
+    "usage: reference session | load | rules | states | text | annotate [CODES] | generate SEED ...";
 const BUFFER: usize = 1 << 16;
 
 fn main() -> ExitCode {
@@ -16,11 +16,13 @@ fn main() -> ExitCode {
     let result = match arguments.as_slice() {
         ["session"] => session::run(input, output),
         ["load"] => load::run(input, output),
-        ["states"] => states::run(input, output),
+        ["rules"] => rules::run(input, output),
+        // One runner serves both: `text` only says what a list is for.
+        ["states"] | ["text"] => states::run(input, output),
         ["annotate"] => annotate::run(Codes::ALL, input, output),
         ["annotate", codes] => match Codes::parse(codes) {
             Some(codes) => annotate::run(codes, input, output),
-            None => Err(usage("CODES are codes 0 to 9 and ranges, such as 0-7,9")),
+            None => Err(usage("CODES are codes 0 to 11 and ranges, such as 0-7,9")),
         },
         ["generate", rest @ ..] => generate::run(rest, output),
         _ => Err(usage(USAGE)),

@@ -1,4 +1,5 @@
-//! The ten questions asked before a call. The first "no" is the refusal.
+//! The questions asked before a call. The first "no" is the refusal. Questions 11
+//! to 13 (A4) are asked in `rule_text`.
 
 use crate::queue::Queue;
 use crate::table::*;
@@ -15,6 +16,12 @@ pub enum Refusal {
     NoFreeCell = 8,
     HeldCount = 9,
     Pointers = 10,
+    /// A text outside the notation or over 4,096 bytes.
+    Outside = 11,
+    /// More than 32 brackets open together.
+    Deep = 12,
+    /// A text that doesn't fit the buffer.
+    Buffer = 13,
 }
 
 fn ask(yes: bool, refusal: Refusal) -> Result<(), Refusal> {

@@ -1,8 +1,9 @@
 //! The session program: one call a line in, one reply a line out.
 
-use std::io::{self, BufRead, ErrorKind, Write};
+use std::io::{self, BufRead, Write};
 
 use crate::call::{Call, Reply};
+use crate::lines::Lines;
 use crate::store::Store;
 use crate::text::Line;
 
@@ -10,7 +11,7 @@ const MAX_LINE: usize = 80;
 
 pub fn run(input: impl BufRead, mut output: impl Write) -> io::Result<()> {
     let mut store = Store::for_any_fresh();
-    let mut lines = Lines::new(input);
+    let mut lines = Lines::new(input, MAX_LINE + 1);
     let mut number: u64 = 0;
     while let Some(line) = lines.next_line()? {
         number += 1;
@@ -104,46 +105,4 @@ pub fn parse_number(digits: &[u8]) -> Option<u32> {
         let digit = byte.is_ascii_digit().then(|| byte - b'0')?;
         value.checked_mul(10)?.checked_add(u32::from(digit))
     })
-}
-
-/// Lines of any length, of which only as much is kept as tells that a line is
-/// too long.
-struct Lines<R> {
-    input: R,
-    line: Vec<u8>,
-}
-
-impl<R: BufRead> Lines<R> {
-    fn new(input: R) -> Self {
-        Lines {
-            input,
-            line: Vec::with_capacity(MAX_LINE + 1),
-        }
-    }
-
-    /// The next line without its line feed, which the last one may lack.
-    fn next_line(&mut self) -> io::Result<Option<&[u8]>> {
-        self.line.clear();
-        let mut started = false;
-        loop {
-            let buffer = match self.input.fill_buf() {
-                Ok(buffer) => buffer,
-                Err(error) if error.kind() == ErrorKind::Interrupted => continue,
-                Err(error) => return Err(error),
-            };
-            if buffer.is_empty() {
-                return Ok(started.then_some(&self.line));
-            }
-            started = true;
-            let feed = buffer.iter().position(|&byte| byte == b'\n');
-            let part = &buffer[..feed.unwrap_or(buffer.len())];
-            let room = MAX_LINE + 1 - self.line.len();
-            self.line.extend_from_slice(&part[..part.len().min(room)]);
-            let used = part.len() + usize::from(feed.is_some());
-            self.input.consume(used);
-            if feed.is_some() {
-                return Ok(Some(&self.line));
-            }
-        }
-    }
 }

@@ -4,10 +4,11 @@ use std::io::{self, Read, Write};
 
 use crate::audit::{self, Verdict};
 use crate::call::{Call, Reply};
-use crate::format::{write_line, write_store, Lent, Line, Reader, Sort};
+use crate::format::{write_buffer, write_line, write_store, Lent, Line, Reader, Sort};
 use crate::queue::{Packet, Queue};
 use crate::store::Store;
 use crate::table::MAX_CELLS;
+use crate::text_call::{TextCall, TextReply};
 
 pub fn run(mut input: impl Read, mut output: impl Write) -> io::Result<()> {
     let mut text = Vec::new();
@@ -30,9 +31,41 @@ pub fn run(mut input: impl Read, mut output: impl Write) -> io::Result<()> {
                     None => writeln!(output, " UNDECIDED")?,
                 }
             }
+            Line::Text(call, sort) => {
+                let answer = runner.text(&call, sort);
+                let reply = answer.map_err(|what| reader.error(what))?;
+                // The bytes of a text read are not repeated.
+                let shown = match call {
+                    TextCall::Read(_) => &reader.numbers()[..2],
+                    TextCall::Write { .. } => reader.numbers(),
+                };
+                write_line(&mut output, reader.letter(), shown)?;
+                match reply {
+                    Some(reply) => write_text_reply(&mut output, &reply, sort, &runner.store)?,
+                    None => writeln!(output, " UNDECIDED")?,
+                }
+            }
         }
     }
     output.flush()
+}
+
+/// The reply to a text call, the store after it, and the buffer, if it had one.
+fn write_text_reply(
+    output: &mut impl Write,
+    reply: &TextReply,
+    sort: Sort,
+    store: &Store,
+) -> io::Result<()> {
+    match reply.value {
+        Ok(value) => writeln!(output, " OK {value}")?,
+        Err(refusal) => writeln!(output, " NO {}", refusal as u8)?,
+    }
+    write_state(output, sort, store)?;
+    match &reply.buffer {
+        Some(buffer) => write_buffer(output, buffer),
+        None => Ok(()),
+    }
 }
 
 /// Makes the calls of a list, as far as document 01 decides them.
@@ -87,12 +120,28 @@ impl Runner {
         Ok(Some(call.perform(&mut self.store)))
     }
 
+    /// The reply to a text call, or none where the papers don't decide it.
+    pub fn text(&mut self, call: &TextCall, sort: Sort) -> Result<Option<TextReply>, &'static str> {
+        self.undecided |= call.first_questions(&self.store).is_ok() && !self.is_sound();
+        if self.undecided {
+            return Ok(None);
+        }
+        if sort == Sort::Undecided {
+            return Err("a text call in a U line that the papers decide");
+        }
+        Ok(Some(call.perform(&mut self.store)))
+    }
+
     /// Whether document 01 leaves open what this call gives.
     fn is_undecided(&mut self, call: Call) -> bool {
-        let Store { table, queue, .. } = &self.store;
         !call.is_decided_on_any_store()
             && call.first_questions(&self.store).is_ok()
-            && audit::audit(table, queue, &mut self.work) != Ok(Verdict::Sound)
+            && !self.is_sound()
+    }
+
+    fn is_sound(&mut self) -> bool {
+        let Store { table, queue, .. } = &self.store;
+        audit::audit(table, queue, &mut self.work) == Ok(Verdict::Sound)
     }
 }
 

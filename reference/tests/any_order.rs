@@ -138,6 +138,9 @@ impl Steps {
                         self.check(&before, reply, runner.store());
                     }
                 }
+                Line::Text(call, sort) => {
+                    runner.text(&call, sort).unwrap();
+                }
             }
         }
     }

@@ -3,6 +3,7 @@
 
 mod slow;
 
+use std::collections::{BTreeMap, BTreeSet};
 use std::fs;
 use std::path::Path;
 
@@ -116,6 +117,11 @@ fn call(code: usize, p: u16, q: u16) -> Call {
     ][code]
 }
 
+fn text_of(numbers: &[usize]) -> Vec<u8> {
+    assert_eq!(numbers.len(), 2 + numbers[1]);
+    numbers[2..].iter().map(|&byte| byte as u8).collect()
+}
+
 fn is_undecided(store: &Store, call: Call) -> bool {
     !matches!(
         call,
@@ -151,6 +157,46 @@ fn slow_output(list: &str) -> String {
                     store.queue.a[slot[0]] = slot[2] as u16;
                     store.queue.b[slot[0]] = slot[3] as u16;
                     store.queue.c[slot[0]] = slot[4] as u16;
+                }
+            }
+            "C" | "B" | "U" if numbers[0] >= 10 => {
+                let first = match numbers[0] {
+                    10 => {
+                        let first = slow::text::first_of_read(&store, &text_of(&numbers));
+                        first.map(|_| ())
+                    }
+                    _ => slow::text::first_of_write(&store, numbers[1] as u16),
+                };
+                undecided = undecided || slow::text::is_undecided(&store, first);
+                let shown = match numbers[0] {
+                    10 => format!("{letter} 10 {}", numbers[1]),
+                    _ => line.to_string(),
+                };
+                if undecided {
+                    output += &format!("{shown} UNDECIDED\n");
+                    continue;
+                }
+                assert_ne!(letter, "U", "{line}");
+                let mut buffer = None;
+                let reply = match numbers[0] {
+                    10 => slow::text::read(&mut store, &text_of(&numbers)),
+                    _ => {
+                        let buffer = buffer.insert(vec![numbers[3] as u8; numbers[2]]);
+                        slow::text::write(&store, numbers[1] as u16, buffer)
+                    }
+                };
+                output += &match reply {
+                    Ok(value) => format!("{shown} OK {value}\n"),
+                    Err(number) => format!("{shown} NO {number}\n"),
+                };
+                if letter == "C" {
+                    output += &written(&store);
+                } else {
+                    output += &format!("H {}\n", checksum(&store));
+                }
+                if let Some(buffer) = buffer {
+                    let bytes: Vec<u16> = buffer.iter().map(|&byte| byte.into()).collect();
+                    output += &format!("F {}\n", runs(&bytes));
                 }
             }
             "C" | "B" | "U" => {
@@ -197,7 +243,8 @@ fn assert_same_text(name: &str, fast: &str, slow: &str) {
 fn fast_and_slow_agree_on_every_list() {
     for name in LISTS {
         if name != "operands" {
-            assert_same(name, &list(name, 7, 60));
+            let cases = if name == "text-random" { 800 } else { 60 };
+            assert_same(name, &list(name, 7, cases));
         }
     }
 }
@@ -256,7 +303,18 @@ fn malformed_lists_are_errors() {
         "T 2 1 3 0",
         "T 1 1 1 65536",
         "T 1 1 1 0\nW 1 0",
+        "C 12 0 0",
         "C 10 0 0",
+        "C 10 2 40",
+        "C 10 1 256",
+        "C 10",
+        "C 11 0 2",
+        "C 11 0 2 256",
+        "C 11 65536 2 0",
+        "T 8 2 3 1 5 0\nU 10 2 40 41",
+        "T 8 2 3 1 5 0\nU 11 0 2 0",
+        "T 8 2 3 1 5 2\nU 10 1 41",
+        "T 8 2 3 1 5 2\nU 11 2 2 0",
         "Q 0 0 1 64 0 0 0 0",
         "C 1 2",
         "U 9 0 0",
@@ -277,7 +335,7 @@ fn annotated_lists_give_the_same_answers() {
             continue;
         }
         let list = list(name, 13, 40);
-        let marked = annotated(&list, "0-9");
+        let marked = annotated(&list, "0-11");
         let mut expected = String::new();
         for line in fast_output(&list).lines() {
             if line.ends_with(" UNDECIDED") {
@@ -287,7 +345,7 @@ fn annotated_lists_give_the_same_answers() {
             }
         }
         assert_same_text(name, &fast_output(&marked), &expected);
-        assert_eq!(annotated(&marked, "0-9"), marked, "{name}");
+        assert_eq!(annotated(&marked, "0-11"), marked, "{name}");
         let unmarked = |text: &str| -> Vec<String> {
             let lines = text.lines().filter(|line| !line.starts_with('#'));
             lines.map(|line| line.replace(['B', 'U'], "C")).collect()
@@ -351,12 +409,18 @@ fn annotated_lines_are_canonical() {
 
 #[test]
 fn codes_are_digits_and_ranges() {
-    for (text, other) in [("0-9", "0,1-8,9"), ("3", "3-3"), ("1,1,2", "1-2")] {
+    for (text, other) in [
+        ("0-9", "0,1-8,9"),
+        ("3", "3-3"),
+        ("1,1,2", "1-2"),
+        ("8-11", "8,9,10,11"),
+    ] {
         assert_eq!(Codes::parse(text), Codes::parse(other), "{text}");
     }
-    assert_eq!(Codes::parse("0-9"), Some(Codes::ALL));
+    assert_eq!(Codes::parse("0-11"), Some(Codes::ALL));
+    assert_ne!(Codes::parse("0-9"), Some(Codes::ALL));
     for text in [
-        "", "10", "0-10", "7-0", "a", "0-", "-7", "1,", "0 7", "1-2-3",
+        "", "12", "0-12", "011", "00", "7-0", "11-10", "a", "0-", "-7", "1,", "0 7", "1-2-3",
     ] {
         assert_eq!(Codes::parse(text), None, "{text}");
     }
@@ -415,6 +479,9 @@ fn nil_reads(list: &str) -> NilReads {
             }
             Line::Call(call, sort) => {
                 runner.call(call, sort).unwrap();
+            }
+            Line::Text(call, sort) => {
+                runner.text(&call, sort).unwrap();
             }
         }
     }
@@ -493,4 +560,147 @@ fn gate_lists_have_what_they_are_for() {
             }
         }
     }
+}
+
+/// The list for the gate's program with text calls, and what is expected of it.
+fn text_cases() -> (String, String) {
+    let root = Path::new(env!("CARGO_MANIFEST_DIR")).parent().unwrap();
+    let read = |name: &str| fs::read_to_string(root.join("reference/cases/gate").join(name)).unwrap();
+    (read("texts.list"), read("texts.out"))
+}
+
+#[test]
+fn text_cases_give_what_is_stored() {
+    let (list, output) = text_cases();
+    assert_same_text("text_cases", &output, &fast_output(&list));
+    assert_same_text("text_cases", &output, &slow_output(&list));
+}
+
+#[test]
+fn text_cases_have_what_they_are_for() {
+    let (list, output) = text_cases();
+    assert!(list.len() < 1_200_000 && output.len() < 3_000_000);
+    let mut texts = BTreeSet::new();
+    let mut fresh = BTreeSet::new();
+    for line in list.lines() {
+        let mut parts = line.splitn(4, ' ');
+        let letter = parts.next().unwrap();
+        assert!("TQSCBU".contains(letter), "{line}");
+        match (letter, parts.next()) {
+            ("C" | "B" | "U", Some("10")) => {
+                parts.next();
+                texts.insert(parts.next().unwrap_or(""));
+            }
+            ("C" | "B" | "U", Some("0")) => {
+                fresh.insert(parts.next().unwrap());
+            }
+            _ => {}
+        }
+    }
+    assert!(texts.len() >= 2_500, "{} texts", texts.len());
+    println!("{} different texts", texts.len());
+    // Each refusal of each of the two calls, each code with each letter.
+    let mut counts = BTreeMap::new();
+    for line in output
+        .lines()
+        .filter(|line| line.starts_with(['C', 'B', 'U']))
+    {
+        let parts: Vec<&str> = line.split(' ').collect();
+        let code: usize = parts[1].parse().unwrap();
+        let reply = match code {
+            10 => &parts[3..],
+            11 => &parts[5..],
+            _ => &parts[4..],
+        };
+        let reply = match reply {
+            ["NO", number] => format!("NO {number}"),
+            other => other[0].to_string(),
+        };
+        *counts.entry((code, reply)).or_insert(0) += 1;
+    }
+    println!("{counts:?}");
+    let all_of = [
+        (
+            10,
+            &["OK", "NO 1", "NO 7", "NO 8", "NO 11", "NO 12", "UNDECIDED"][..],
+        ),
+        (
+            11,
+            &["OK", "NO 1", "NO 4", "NO 6", "NO 12", "NO 13", "UNDECIDED"],
+        ),
+    ];
+    for (code, replies) in all_of {
+        for reply in replies {
+            let count = counts.get(&(code, reply.to_string())).copied().unwrap_or(0);
+            assert!(count >= 50, "{code} {reply}: {count}");
+        }
+        let others = counts.keys().filter(|key| key.0 == code).count();
+        assert_eq!(others, replies.len(), "{counts:?}");
+    }
+    for code in 0..=7 {
+        assert!(counts[&(code, "OK".to_string())] >= 50, "{code}");
+    }
+    assert!(counts[&(8, "TAKEN".to_string())] >= 50);
+    assert!(counts[&(9, "SOUND".to_string())] >= 50);
+}
+
+/// Which questions of the text calls are answered on a store that fails the
+/// audit: 1, 11 and 12 of reading, 1 and 4 of writing.
+#[test]
+fn text_calls_on_damaged_stores() {
+    let store = "T 8 2 3 1 5 2\nQ 0 0 0\nS 1 1 1 0\n";
+    let deep = format!("66{}{}", " 40".repeat(33), " 41".repeat(33));
+    for (call, reply) in [
+        ("10 1 41".to_string(), "10 1 NO 11"),
+        ("10 0".to_string(), "10 0 NO 11"),
+        (format!("10 {deep}"), "10 66 NO 12"),
+        ("11 2 3 9".to_string(), "11 2 3 9 NO 4\nF 3 1 3 9"),
+        ("11 32767 0 9".to_string(), "11 32767 0 9 NO 4\nF 0 0"),
+    ] {
+        let (first, buffer) = reply.split_once('\n').unwrap_or((reply, ""));
+        let buffer = match buffer {
+            "" => String::new(),
+            line => format!("{line}\n"),
+        };
+        let expected = format!("C {first}\n{store}{buffer}");
+        assert_eq!(fast_output(&format!("{store}C {call}\n")), expected);
+        let unfit = "T 7 2 3 1 4 2\nQ 0 0 0\nS 0 0\n";
+        let output = fast_output(&format!("{unfit}C {call}\n"));
+        assert!(
+            output.lines().next().unwrap().ends_with(" NO 1"),
+            "{output}"
+        );
+    }
+    for (call, shown) in [
+        ("10 2 40 41", "10 2"),
+        ("10 1 49", "10 1"),
+        ("10 3 40 49 41", "10 3"),
+        ("11 0 2 0", "11 0 2 0"),
+        ("11 1 0 0", "11 1 0 0"),
+        ("11 32768 0 0", "11 32768 0 0"),
+    ] {
+        let list = format!("{store}C {call}\nB 10 1 41\n");
+        let marked = format!("{store}U {call}\nU 10 1 41\n");
+        assert_eq!(annotated(&list, "0-11"), marked);
+        let expected = format!("U {shown} UNDECIDED\nU 10 1 UNDECIDED\n");
+        assert_eq!(fast_output(&marked), expected);
+        assert_same("text", &list);
+    }
+}
+
+/// The lines of a text call, worked out by hand.
+#[test]
+fn text_calls_in_a_list() {
+    let list = "T 13 1 13 0\nS 1 1 1 5\nC 0 2 0\nC 10 7 40 49 32 46 32 50 41\n\
+                C 11 1 9 35\nB 11 1 6 35\n";
+    let output = fast_output(list);
+    let after = "Q 0 1 1 0 2 32769 32770 1\nS 1 1 1 5\n";
+    let table = "T 13 7 3 2 1 32769 1 32770 1 1 1 0 1 1 5 0\n";
+    let whole = format!(
+        "C 0 2 0 OK 0\nT 13 4 1 2 1 1 2 2 9 0\nQ 0 0 0\nS 1 1 1 5\n\
+         C 10 7 OK 1\n{table}{after}C 11 1 9 35 OK 7\n{table}{after}\
+         F 9 8 1 40 1 49 1 32 1 46 1 32 1 50 1 41 2 35\nB 11 1 6 35 NO 13\nH "
+    );
+    assert!(output.starts_with(&whole), "{output}\n{whole}");
+    assert!(output.ends_with("\nF 6 1 6 35\n"), "{output}");
 }

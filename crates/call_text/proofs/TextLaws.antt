@@ -7,13 +7,13 @@ use native.Mathlib.Omega.{arith}
 use lib.Dec.{ltb, eqb}
 use lib.ListN.{length, length-append}
 use borrow.Author.Tests.{eq-eqb, ne-eqb, ltb-true, ltb-false}
+use Rattle.base_ten.specs.Bytes.{digitZero, ascii, lineFeed, space, before, onFirst, split}
+use Rattle.base_ten.specs.Decimal.{digits, mostDigits, decimal}
+use Rattle.base_ten.proofs.PutLaws.{digits-length}
 use Rattle.machine.specs.declared.RowCall
 use Rattle.machine.specs.declared.RowCall.{RowCall}
 use Rattle.line_text.specs.declared.Request
 use Rattle.line_text.specs.declared.Request.{Request}
-use Rattle.line_text.specs.Bytes.{digitZero, ascii, lineFeed, space, before, onFirst, split}
-use Rattle.line_text.specs.Texts.{digits, mostDigits, decimal}
-use Rattle.line_text.proofs.PutLaws.{digits-length}
 use Rattle.call_text.specs.CallText.{oneText, twoText, rowText, callText, callLine, wordRoom, callRoom, lineRoom}
 
 one-length : (word : List ℕ) (x : ℕ) → length word ≤ wordRoom → length (oneText word x) ≤ callRoom

@@ -1,13 +1,13 @@
 // The line of a call, written into a lent buffer from a place on.
+use base_ten::put::MOST_DIGITS;
+use base_ten::put::put_counted;
+use base_ten::put::put_word;
 use line_text::Request;
-use line_text::texts::MOST_DIGITS;
-use line_text::texts::put_counted;
-use line_text::texts::put_word;
 use machine::RowCall;
 ghost use Prim.Native.Nat.{_+_, _≤_};
 ghost use lib.ListN.{length};
-ghost use Rattle.line_text.specs.Texts.{mostDigits};
-ghost use Rattle.line_text.specs.Put.{Put};
+ghost use Rattle.base_ten.specs.Decimal.{mostDigits};
+ghost use Rattle.base_ten.specs.Put.{Put};
 ghost use Rattle.call_text.specs.CallText.{twoText, rowText, callText, callLine, callRoom, lineRoom};
 
 // The longest keyword with its space.

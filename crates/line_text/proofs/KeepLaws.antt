@@ -9,10 +9,10 @@ use lib.Dec.{leb}
 use lib.ListN.{length, take, getD, set, length-append}
 use lib.Seq.{take-all, take-append-add, length-take-le}
 use borrow.Author.Tests.{leb-true, leb-false}
+use Rattle.base_ten.proofs.WordLaws.{append-none}
+use Rattle.base_ten.proofs.PutLaws.{word-step}
 use Rattle.line_text.specs.Requests.{requestOf}
 use Rattle.line_text.specs.Kept.{keptBytes}
-use Rattle.line_text.proofs.PutLaws.{word-step}
-use Rattle.line_text.proofs.WordLaws.{append-none}
 use Rattle.line_text.proofs.RequestLaws.{line-long}
 
 -- no more is taken than there is

@@ -10,16 +10,16 @@ use lib.Dec.{leb, eqb}
 use lib.ListN.{length, take, drop, getD, length-drop}
 use lib.Seq.{take-all}
 use borrow.Author.Tests.{eq-eqb, ne-eqb, le-leb, lt-leb}
+use Rattle.base_ten.specs.declared.Number
+use Rattle.base_ten.specs.declared.Number.{Number}
+use Rattle.base_ten.specs.Bytes.{ascii, sameBytes, before, onFirst, split, wordsOf, space}
+use Rattle.base_ten.proofs.ByteLaws.{same-equal}
+use Rattle.base_ten.proofs.WordLaws.{split-all, split-at}
 use Rattle.machine.specs.declared.RowCall
 use Rattle.machine.specs.declared.RowCall.{RowCall}
-use Rattle.line_text.specs.declared.Number
-use Rattle.line_text.specs.declared.Number.{Number}
 use Rattle.line_text.specs.declared.Request
 use Rattle.line_text.specs.declared.Request.{Request}
-use Rattle.line_text.specs.Bytes.{digitZero, ascii, sameBytes, before, onFirst, split, wordsOf, space}
 use Rattle.line_text.specs.Requests.{operandOf, withNone, withOne, withTwo, ifOne, ifBoth, byWords, requestOf, mostBytes}
-use Rattle.line_text.proofs.ByteLaws.{same-equal}
-use Rattle.line_text.proofs.WordLaws.{split-all, split-at}
 
 abbrev is : List ℕ → String → Type 0
 is k word = sameBytes k (ascii word) ≡ true

@@ -1,6 +1,4 @@
 -- Lines of input and output as bytes.
-pub mod Bytes
-pub mod Numbers
 pub mod Requests
 pub mod Kept
 pub mod Verdicts

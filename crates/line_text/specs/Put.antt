@@ -1,14 +1,9 @@
--- What a writer into a lent buffer does, and the text of a number that is counted up.
+-- The number of a line, counted up, and its text in a buffer.
 use mathlib.Core.Path.{_≡_}
-use mathlib.Core.List.{List, _++_}
+use mathlib.Core.List.{List}
 use Prim.Native.Nat.{ℕ, _+_, _/_, _^_, _≤_, _<_}
 use lib.ListN.{length, take}
-use Rattle.line_text.specs.Texts.{mostDigits, decimal}
-
--- the buffer's front up to `at` stands, the text follows it, and `end` is past the text
-pub record Put (old : List ℕ) (at : ℕ) (text new : List ℕ) (end : ℕ) : Type 0 where
-  pub front : take end new ≡ take at old ++ text
-  pub ends : end ≡ at + length text
+use Rattle.base_ten.specs.Decimal.{mostDigits, decimal}
 
 -- a text of 20 bytes, of which the first, so many, are in base ten a number that differs from this one in its last digit at most
 pub record ShowsTens (text : List ℕ) (size number : ℕ) : Type 0 where

@@ -4,14 +4,14 @@ use mathlib.Core.List.{List, [], _∷_}
 use Prim.Native.Nat.{ℕ}
 use lib.Dec.{leb}
 use lib.ListN.{length}
+use Rattle.base_ten.specs.declared.Number
+use Rattle.base_ten.specs.declared.Number.{Number}
+use Rattle.base_ten.specs.Bytes.{ascii, sameBytes, wordsOf}
+use Rattle.base_ten.specs.Numbers.{numberOf}
 use Rattle.machine.specs.declared.RowCall
 use Rattle.machine.specs.declared.RowCall.{RowCall}
-use Rattle.line_text.specs.declared.Number
-use Rattle.line_text.specs.declared.Number.{Number}
 use Rattle.line_text.specs.declared.Request
 use Rattle.line_text.specs.declared.Request.{Request}
-use Rattle.line_text.specs.Bytes.{ascii, sameBytes, wordsOf}
-use Rattle.line_text.specs.Numbers.{numberOf}
 
 -- the largest operand
 abbrev pub mostOperand : ℕ

@@ -1,7 +1,5 @@
 // The session's texts: from a line's bytes to what it asks for, and from an answer to an output line. Nothing here calls the store.
-pub mod bytes;
 pub mod kept;
-pub mod numbers;
 pub mod parse;
 pub mod texts;
 
@@ -13,12 +11,6 @@ pub enum Request {
     Row(RowCall),
     Step,
     Bad,
-}
-
-// What a word says as a number.
-pub enum Number {
-    Value(u32),
-    Nothing,
 }
 
 // What an output line says after its number.

@@ -1,14 +1,14 @@
 // From a line's bytes to what it asks for.
-use crate::Number;
 use crate::Request;
-use crate::bytes::find;
-use crate::bytes::same;
-use crate::numbers::number;
+use base_ten::Number;
+use base_ten::bytes::find;
+use base_ten::bytes::same;
+use base_ten::numbers::number;
 use machine::RowCall;
 ghost use mathlib.Core.Path.{_≡_};
 ghost use mathlib.Core.List.{_∷_};
-ghost use Rattle.line_text.specs.Bytes.{wordsOf};
-ghost use Rattle.line_text.specs.Numbers.{AtMost};
+ghost use Rattle.base_ten.specs.Bytes.{wordsOf};
+ghost use Rattle.base_ten.specs.Numbers.{AtMost};
 ghost use Rattle.line_text.specs.Requests.{mostOperand, withOne, withTwo, ifOne, ifBoth, byWords, requestOf};
 
 // The most bytes of a line, its line feed not counted.

@@ -8,15 +8,15 @@ use native.Mathlib.Omega.{arith}
 use lib.Dec.{eqb}
 use lib.ListN.{length}
 use borrow.Author.Tests.{eqb-false}
+use Rattle.base_ten.specs.Bytes.{ascii, lineFeed, space, before, split, linesOf}
+use Rattle.base_ten.specs.Decimal.{mostDigits, decimal}
 use Rattle.machine.specs.declared.RowCall
 use Rattle.machine.specs.declared.RowCall.{RowCall}
 use Rattle.machine.specs.Words.{mostCells, firstAtom}
 use Rattle.machine.specs.Calls.{Store}
 use Rattle.line_text.specs.declared.Request
 use Rattle.line_text.specs.declared.Request.{Request}
-use Rattle.line_text.specs.Bytes.{ascii, lineFeed, space, before, split, linesOf}
 use Rattle.line_text.specs.Requests.{mostOperand}
-use Rattle.line_text.specs.Texts.{mostDigits, decimal}
 use Rattle.call_text.specs.CallText.{oneText, twoText, rowText, callText, callLine}
 use Rattle.call_text.specs.ReadsBack.{Words}
 use Rattle.call_text.proofs.TextLaws.{Free, free-append, digits-free, split-word}

@@ -1,9 +1,10 @@
 -- The worked loads, by computation.
 use mathlib.Core.Path.{refl}
+use Rattle.base_ten.specs.Bytes.{split}
+use Rattle.base_ten.specs.Numbers.{numberFrom, numberOf}
+use Rattle.base_ten.specs.Decimal.{digits}
 use Rattle.machine.proofs.Computes.{computes}
-use Rattle.line_text.specs.Bytes.{split}
-use Rattle.line_text.specs.Numbers.{numberFrom, numberOf}
-use Rattle.line_text.specs.Texts.{digits, outputLine}
+use Rattle.line_text.specs.Texts.{outputLine}
 use Rattle.call_text.specs.CallText.{rowText, callText, callLine}
 use Rattle.serving.specs.Serving.{called}
 use Rattle.traffic.specs.Workload.{byWords, byLines, workloadOf}

@@ -6,9 +6,9 @@ use Prim.Native.Nat.{ℕ, zero, suc, _≤_, _<_}
 use native.Mathlib.Omega.{arith}
 use lib.ListN.{length, take}
 use borrow.Author.Tests.{leb-false}
+use Rattle.base_ten.proofs.WordLaws.{append-none}
 use Rattle.machine.specs.Words.{mostCells}
 use Rattle.line_text.specs.Kept.{keptBytes}
-use Rattle.line_text.proofs.WordLaws.{append-none}
 use Rattle.serving.specs.Serving.{unmade, Good}
 use Rattle.serving.proofs.ServeLaws.{unmade-good}
 use Rattle.traffic.specs.declared.Workload

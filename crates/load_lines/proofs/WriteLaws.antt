@@ -9,15 +9,17 @@ use native.Mathlib.Omega.{arith}
 use lib.Dec.{leb, eqb}
 use lib.ListN.{length, take, length-append}
 use borrow.Author.Tests.{eqb-true, eqb-false}
+use Rattle.base_ten.specs.Put.{Put}
+use Rattle.base_ten.proofs.WordLaws.{append-none}
+use Rattle.base_ten.proofs.PutLaws.{put-both, put-within}
 use Rattle.machine.specs.declared.Queue.{Queue}
 use Rattle.machine.specs.Calls.{Store, store}
 use Rattle.line_text.specs.declared.Request
 use Rattle.line_text.specs.declared.Request.{Request}
 use Rattle.line_text.specs.declared.Verdict.{Verdict}
 use Rattle.line_text.specs.Texts.{room, outputLine}
-use Rattle.line_text.specs.Put.{Put, ShowsTens}
-use Rattle.line_text.proofs.PutLaws.{put-both, put-within, output-length}
-use Rattle.line_text.proofs.WordLaws.{append-none}
+use Rattle.line_text.specs.Put.{ShowsTens}
+use Rattle.line_text.proofs.PutLaws.{output-length}
 use Rattle.call_text.specs.CallText.{callLine, lineRoom}
 use Rattle.call_text.proofs.TextLaws.{line-length}
 use Rattle.serving.specs.Serving.{served, Good}

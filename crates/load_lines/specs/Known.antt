@@ -4,7 +4,7 @@ use mathlib.Core.Path.{_≡_}
 use mathlib.Core.List.{List, [], _∷_, _++_}
 use Prim.Native.Nat.{ℕ}
 use Prim.Native.String.{String}
-use Rattle.line_text.specs.Bytes.{ascii, lineFeed}
+use Rattle.base_ten.specs.Bytes.{ascii, lineFeed}
 use Rattle.session_lines.specs.Known.{text}
 use Rattle.traffic.specs.Workload.{workloadOf}
 use Rattle.load_lines.specs.Listing.{listingWith}

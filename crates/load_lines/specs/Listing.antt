@@ -1,10 +1,10 @@
 -- The listing of an input: what the load program writes, as a definition on the list of the input's bytes.
 use mathlib.Core.List.{List, [], _∷_, _++_}
 use Prim.Native.Nat.{ℕ, suc}
+use Rattle.base_ten.specs.Bytes.{ascii, lineFeed}
 use Rattle.machine.specs.Words.{mostCells}
 use Rattle.machine.specs.Calls.{Store}
 use Rattle.line_text.specs.declared.Request.{Request}
-use Rattle.line_text.specs.Bytes.{ascii, lineFeed}
 use Rattle.line_text.specs.Texts.{outputLine}
 use Rattle.call_text.specs.CallText.{callLine}
 use Rattle.serving.specs.Serving.{served, unmade}

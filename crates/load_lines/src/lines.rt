@@ -2,14 +2,14 @@
 use crate::BOTH_ROOM;
 use crate::Load;
 use crate::Written;
+use base_ten::put::MOST_DIGITS;
+use base_ten::put::put_word;
 use call_text::put_call_line;
 use line_text::Request;
 use line_text::Verdict;
-use line_text::texts::MOST_DIGITS;
 use line_text::texts::count_up;
 use line_text::texts::number_text;
 use line_text::texts::put_line;
-use line_text::texts::put_word;
 use machine::Queue;
 use serving::fresh_verdict;
 use serving::row_verdict;

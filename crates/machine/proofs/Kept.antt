@@ -6,15 +6,18 @@ use Prim.Native.Nat.{ℕ, zero, suc, pred, _≤_, _<_}
 use native.Mathlib.Omega.{arith}
 use lib.ListN.{length, drop}
 use borrow.Author.Tests.{leb-true}
+use Rattle.notation.specs.Trees.{Tree, nil, atom, pair}
+use Rattle.notation.specs.Parse.{parse, meaning}
 use Rattle.machine.specs.Table.{stride, left, right, newCell, scratchWords, capacity, firstFree, lastFree, tableLength, putWord, putEnds, putCell}
 use Rattle.machine.specs.Queue.{Packet, waiting}
 use Rattle.machine.specs.Packets.{contains, Change, changes}
-use Rattle.machine.specs.Calls.{Call, fresh, row, step, audit, RowCall, car, cdr, cons, setLeft, setRight, up, down}
+use Rattle.machine.specs.Calls.{Call, fresh, row, step, audit, read, write, RowCall, car, cdr, cons, setLeft, setRight, up, down}
 use Rattle.machine.specs.Calls.{Reply, refused, Store, store, withoutFirst, written}
 use Rattle.machine.specs.Step.{moveCount, applyChanges, unreached, swept, cleared, Outcome, outcome, stepWith, stepFrom, stepped}
 use Rattle.machine.specs.Questions.{firstNo, earlyRow, early, late, questions, scratchEnough, xIsCell}
 use Rattle.machine.specs.Audit.{rules, auditReply, audited}
-use Rattle.machine.specs.Machine.{accepted, answered, machine}
+use Rattle.machine.specs.Texts.{buildBy}
+use Rattle.machine.specs.Machine.{refusedOr, acceptedRow, consed, textRead, accepted, answered, machine}
 use Rattle.machine.specs.Promise.{ByMachine, Gives, Untouched, Bounded, numbers, Promise}
 use Rattle.machine.proofs.Words.{cell-index}
 use Rattle.machine.proofs.Table.{length-putWord, length-putEnds, length-putCell, capacity-putWord, capacity-putEnds, capacity-putCell, past-putWord, past-putEnds, past-putCell}
@@ -53,11 +56,13 @@ step-not-refused s [] n h = let z : _≡_ {A = ℕ} 0 1 = cc in omega arith
 step-not-refused s (p ∷ ps) n h = let z : _≡_ {A = ℕ} 0 1 = cc in omega arith
 
 not-refused : (s : Store) (call : Call) (n : ℕ) → accepted s call .reply ≡ refused n → ⊥
-unfolding accepted stepped audited
+unfolding accepted textRead stepped audited
 not-refused s (fresh c) n h = let z : _≡_ {A = ℕ} 0 1 = cc in omega arith
 not-refused s (row r) n h = let z : _≡_ {A = ℕ} 0 1 = cc in omega arith
 not-refused s step n h = step-not-refused s (waiting (s .queue)) n h
 not-refused s audit n h = audit-not-refused (firstNo (rules (s .table) (s .queue))) n h
+not-refused s (read text) n h = let z : _≡_ {A = ℕ} 0 1 = cc in omega arith
+not-refused s (write w room) n h = let z : _≡_ {A = ℕ} 0 1 = cc in omega arith
 
 kept-asked : (s : Store) (call : Call) (n : ℕ) → firstNo (early s call) ≡ suc n → (machine s call .reply ≡ refused (suc n)) × (machine s call .after ≡ s)
 unfolding questions
@@ -158,7 +163,7 @@ untouched s t q u f e d = record {
   pastScratch = d;
 }
 
-unmoved : (s : Store) → Untouched s s
+pub unmoved : (s : Store) → Untouched s s
 unmoved s = untouched s (s .table) (s .queue) (s .scratch) (framed-refl (s .table)) refl refl
 
 scratch-room : (s : Store) → scratchEnough (s .table) (s .scratch) ≡ true → scratchWords (capacity (s .table)) ≤ length (s .scratch)
@@ -178,21 +183,6 @@ untouched-step s (p ∷ ps) h =
     (rw (c .0 .sameCapacity) (length-cleared (scratchWords (capacity t)) (s .scratch) (scratch-room s (h .1 .0))))
     (rw (c .0 .sameCapacity) (past-cleared (scratchWords (capacity t)) (s .scratch)))
 
-pub bounded-accepted : (s : Store) (call : Call) → AllYes (early s call) → Bounded call s (accepted s call .after)
-unfolding accepted stepped audited early
-bounded-accepted s (fresh c) h = tt
-bounded-accepted s (row r) h = untouched s (written (s .table) r) _ (s .scratch) (framed-written s r h) refl refl
-bounded-accepted s step h = untouched-step s (waiting (s .queue)) h
-bounded-accepted s audit h =
-    untouched s (s .table) _ (cleared (scratchWords (capacity (s .table))) (s .scratch)) (framed-refl (s .table))
-    (length-cleared (scratchWords (capacity (s .table))) (s .scratch) (scratch-room s (h .1 .0))) (past-cleared (scratchWords (capacity (s .table))) (s .scratch))
-
-pub bounded-same : (s : Store) (call : Call) → Bounded call s s
-bounded-same s (fresh c) = tt
-bounded-same s (row r) = unmoved s
-bounded-same s step = unmoved s
-bounded-same s audit = unmoved s
-
 -- where the machine accepts, the early questions say "yes"
 pub early-yes : (s : Store) (call : Call) → firstNo (questions s call) ≡ 0 → AllYes (early s call)
 unfolding questions
@@ -201,6 +191,54 @@ early-yes s call h = firstNo-all (early s call) (early-numbered s call) (go (fir
     go : (k : ℕ) → firstNo (early s call) ≡ k → firstNo (early s call) ≡ 0
     go zero e = e
     go (suc k) e = absurd (omega (arith, firstNo-append (early s call) (late s call) k e))
+
+-- a cons of the machine, accepted or refused, and so all that builds a tree
+pub untouched-trans : (s u v : Store) → Untouched s u → Untouched u v → Untouched s v
+untouched-trans s u v a b = record {
+  sameLength = b .sameLength ∙ a .sameLength;
+  sameCapacity = b .sameCapacity ∙ a .sameCapacity;
+  pastCells = (rw (a .sameCapacity) at (b .pastCells)) ∙ a .pastCells;
+  scratchLength = b .scratchLength ∙ a .scratchLength;
+  pastScratch = (rw (a .sameCapacity) at (b .pastScratch)) ∙ a .pastScratch;
+}
+
+untouched-consed : (s : Store) (x y : ℕ) → Untouched s (consed s x y .after)
+unfolding consed
+untouched-consed s x y = go (firstNo (questions s (row (cons x y)))) refl
+  where
+    go : (n : ℕ) → firstNo (questions s (row (cons x y))) ≡ n → Untouched s (refusedOr n s (acceptedRow s (cons x y)) .after)
+    go zero e = untouched s (written (s .table) (cons x y)) _ (s .scratch) (framed-written s (cons x y) (early-yes s (row (cons x y)) e)) refl refl
+    go (suc n) e = unmoved s
+
+pub untouched-built : (s : Store) (t : Tree) → Untouched s (buildBy consed s t .after)
+unfolding buildBy
+untouched-built s nil = unmoved s
+untouched-built s (atom v) = unmoved s
+untouched-built s (pair a d) =
+    let x = buildBy consed s a in
+    let y = buildBy consed (x .after) d in
+    untouched-trans s (x .after) (consed (y .after) (x .word) (y .word) .after) (untouched-built s a)
+    (untouched-trans (x .after) (y .after) (consed (y .after) (x .word) (y .word) .after) (untouched-built (x .after) d)
+    (untouched-consed (y .after) (x .word) (y .word)))
+
+pub bounded-accepted : (s : Store) (call : Call) → AllYes (early s call) → Bounded call s (accepted s call .after)
+unfolding accepted textRead stepped audited early
+bounded-accepted s (fresh c) h = tt
+bounded-accepted s (row r) h = untouched s (written (s .table) r) _ (s .scratch) (framed-written s r h) refl refl
+bounded-accepted s step h = untouched-step s (waiting (s .queue)) h
+bounded-accepted s audit h =
+    untouched s (s .table) _ (cleared (scratchWords (capacity (s .table))) (s .scratch)) (framed-refl (s .table))
+    (length-cleared (scratchWords (capacity (s .table))) (s .scratch) (scratch-room s (h .1 .0))) (past-cleared (scratchWords (capacity (s .table))) (s .scratch))
+bounded-accepted s (read text) h = untouched-built s (meaning (parse text))
+bounded-accepted s (write w room) h = refl
+
+pub bounded-same : (s : Store) (call : Call) → Bounded call s s
+bounded-same s (fresh c) = tt
+bounded-same s (row r) = unmoved s
+bounded-same s step = unmoved s
+bounded-same s audit = unmoved s
+bounded-same s (read text) = unmoved s
+bounded-same s (write w room) = refl
 
 kept-bounded : (s : Store) (call : Call) → Bounded call s (machine s call .after)
 kept-bounded s call =
@@ -212,12 +250,16 @@ machine-gives s (fresh c) = (refl, refl)
 machine-gives s (row r) = (refl, refl)
 machine-gives s step = (refl, refl)
 machine-gives s audit = (refl, refl)
+machine-gives s (read text) = (refl, refl)
+machine-gives s (write w room) = (refl, refl)
 
 pub gives-machine : (s : Store) (call : Call) (r : Reply) (after : Store) → Gives s call r after → ByMachine s call r after
 gives-machine s (fresh c) r after g = g
 gives-machine s (row k) r after g = g
 gives-machine s step r after g = g
 gives-machine s audit r after g = g
+gives-machine s (read text) r after g = g
+gives-machine s (write w room) r after g = g
 
 pub kept : (s : Store) (call : Call) → Promise s call (machine s call .reply) (machine s call .after)
 kept s call = record {

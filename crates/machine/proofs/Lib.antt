@@ -26,3 +26,4 @@ pub mod OnlyAnswers
 pub mod Crowded
 pub mod ManyPointers
 pub mod WrongAnswers
+pub mod TextLaws

@@ -18,7 +18,7 @@ use Rattle.machine.specs.Words.{isNil, mostCells}
 use Rattle.machine.specs.Table.{capacity, firstFree, lastFree, tableLength, scratchWords}
 use Rattle.machine.specs.Queue.{slots}
 use Rattle.machine.specs.Packets.{contains}
-use Rattle.machine.specs.Calls.{car, cdr, cons, setLeft, setRight, up, down, Call, fresh, row, step, audit, Store, store}
+use Rattle.machine.specs.Calls.{car, cdr, cons, setLeft, setRight, up, down, Call, fresh, row, step, audit, read, write, Store, store}
 use Rattle.machine.specs.Questions.{Question, ask, firstNo, xIsCell, earlyRow, early, inRange, scratchEnough}
 use Rattle.machine.specs.Facts.{Shape, Lent}
 use Rattle.machine.specs.Promise.{numbers}
@@ -102,6 +102,8 @@ early-numbered s (row (up x n)) = (omega arith, (omega arith, (omega arith, (ome
 early-numbered s (row (down x n)) = (omega arith, (omega arith, (omega arith, (omega arith, tt))))
 early-numbered s step = (omega arith, (omega arith, tt))
 early-numbered s audit = (omega arith, (omega arith, tt))
+early-numbered s (read text) = (omega arith, (omega arith, (omega arith, tt)))
+early-numbered s (write w room) = (omega arith, (omega arith, tt))
 
 -- question 1 as plain facts
 pub shape-is : (t : List ℕ) (q : Queue) → inRange t q ≡ true → Shape t q

@@ -7,16 +7,17 @@ use Prim.Native.Nat.{ℕ, zero, suc, _+_, _<_}
 use native.Mathlib.Omega.{arith}
 use native.Mathlib.Nat.{not-suc-le-zero}
 use lib.Dec.{eqb}
+use lib.ListN.{length, length-append}
 use borrow.Author.Tests.{eqb-true, eq-eqb, not-true}
-use Rattle.machine.specs.Range.{matching, occurrences, select}
+use Rattle.machine.specs.Range.{exists, total, matching, occurrences, select}
 use Rattle.machine.specs.Table.{capacity, inUse}
 use Rattle.machine.specs.Queue.{Packet}
 use Rattle.machine.specs.Packets.{contains}
 use Rattle.machine.specs.Reached.{Reached, reached}
 use Rattle.machine.specs.Step.{unreached}
 use Rattle.machine.specs.Facts.{Ascending, Dead}
-use Rattle.machine.proofs.Range.{tested, not-both, below-suc, or-true, or-left, or-right, and-both, and-first, and-second, matching-same, matching-other, occurrences-append}
-use Rattle.machine.proofs.Lists.{Indices, none-past}
+use Rattle.machine.proofs.Range.{tested, not-both, below-suc, or-true, or-left, or-right, and-both, and-first, and-second, exists-some, matching-same, matching-other, occurrences-append}
+use Rattle.machine.proofs.Lists.{Indices, none-past, select-none}
 use Rattle.machine.proofs.Reached.{reached-is}
 
 contains-append : (xs ys : List ℕ) (i : ℕ) → contains (xs ++ ys) i ≡ contains xs i || contains ys i
@@ -136,3 +137,22 @@ dead-is t ps = record { members = members; ascending = select-ascending (capacit
       where
         unmarked : (Reached t ps i → ⊥) → not (reached t ps i) ≡ true
         unmarked f = ⊎-elim (λ e. absurd (f (reached-is t ps i .0 e))) (λ (e : reached t ps i ≡ false). rw e) (tested (reached t ps i))
+
+-- how many pass
+pub select-length : (n : ℕ) (p : ℕ → Bool) → length (select n p) ≡ total n (λ i. cond (p i) 1 0)
+unfolding select total
+select-length zero p = refl
+select-length (suc n) p = length-append (select n p) (cond (p n) (n ∷ []) []) ∙ ap₂ _+_ (select-length n p) (one (p n))
+  where
+    one : (b : Bool) → length (cond b (n ∷ []) []) ≡ cond b 1 0
+    one true = refl
+    one false = refl
+
+pub selected-some : (n : ℕ) (p : ℕ → Bool) → 0 < length (select n p) → exists n p ≡ true
+selected-some n p h = ⊎-elim (λ e. e) (λ e. absurd (none e)) (tested (exists n p))
+  where
+    fails : exists n p ≡ false → (i : ℕ) → i < n → p i ≡ false
+    fails e i l = ⊎-elim (λ y. absurd (not-both (exists-some n p i l y) e)) (λ y. y) (tested (p i))
+
+    none : exists n p ≡ false → ⊥
+    none e = let z = ap length (select-none n p (fails e)) in omega arith

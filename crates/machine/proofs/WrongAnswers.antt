@@ -2,13 +2,13 @@
 use mathlib.Core.Path.{refl}
 use Rattle.machine.specs.WrongAnswers as table
 use Rattle.machine.specs.WrongAnswers.{noes, WrongAnswers}
-use Rattle.machine.proofs.Computes.{computes}
+use Rattle.machine.proofs.Computes.{computes, computes-text}
 use Rattle.machine.proofs.ManyPointers.{pointers-only}
 use Rattle.machine.proofs.NilReads.{only-nil}
 use Rattle.machine.proofs.OnlyAnswers.{isSound, isDecided, isSettled, computed, expected, only-first, all-only}
 
 pub wrong-answers : WrongAnswers
-unfolding computes noes isSound isDecided isSettled computed expected
+unfolding computes computes-text noes isSound isDecided isSettled computed expected
 wrong-answers = record {
   first-no = only-first;
   nil-reads = λ s r e h. only-nil r e s h;
@@ -19,6 +19,7 @@ wrong-answers = record {
   order = all-only table.order-entries refl;
   rows = all-only table.row-entries refl;
   nils = all-only table.nil-entries refl;
+  texts = all-only table.text-entries refl;
   freshes = all-only table.fresh-entries refl;
   steps = all-only table.step-entries refl;
   place-63 = all-only table.ring-entries refl;

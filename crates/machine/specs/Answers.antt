@@ -1,7 +1,10 @@
 -- For each enum of the code the paper's call, number or values.
+use mathlib.Core.Path.{_≡_}
+use mathlib.Core.List.{List, []}
 use Prim.Native.Nat.{ℕ}
+use lib.ListN.{length}
 use Rattle.machine.specs.declared.Refusal.{Refusal}
-use Rattle.machine.specs.declared.Refusal.the-variants.{StoreOutOfRange, ScratchTooShort, NumberOutOfRange, IllegalWord, NotACell, NotHeld, QueueFull, NoFreeCell, HeldCountTooHigh, TooManyPointers}
+use Rattle.machine.specs.declared.Refusal.the-variants.{StoreOutOfRange, ScratchTooShort, NumberOutOfRange, IllegalWord, NotACell, NotHeld, QueueFull, NoFreeCell, HeldCountTooHigh, TooManyPointers, NotInNotation, TooDeep, BufferTooShort}
 use Rattle.machine.specs.declared.Asked
 use Rattle.machine.specs.declared.Asked.{Asked}
 use Rattle.machine.specs.declared.RowCall as declared
@@ -13,10 +16,12 @@ use Rattle.machine.specs.declared.StepAnswer
 use Rattle.machine.specs.declared.StepAnswer.{StepAnswer}
 use Rattle.machine.specs.declared.AuditAnswer
 use Rattle.machine.specs.declared.AuditAnswer.{AuditAnswer}
+use Rattle.machine.specs.declared.LengthAnswer
+use Rattle.machine.specs.declared.LengthAnswer.{LengthAnswer}
 use Rattle.machine.specs.declared.Rule
 use Rattle.machine.specs.declared.Rule.{Rule}
 use Rattle.machine.specs.Calls.{RowCall, car, cdr, cons, setLeft, setRight, up, down}
-use Rattle.machine.specs.Calls.{Reply, value, refused, idle, applied, sound, broken}
+use Rattle.machine.specs.Calls.{Reply, value, refused, idle, applied, sound, broken, text}
 
 -- the question answered "no"
 abbrev pub refusalNumber : Refusal → ℕ
@@ -30,6 +35,9 @@ refusalNumber QueueFull = 7
 refusalNumber NoFreeCell = 8
 refusalNumber HeldCountTooHigh = 9
 refusalNumber TooManyPointers = 10
+refusalNumber NotInNotation = 11
+refusalNumber TooDeep = 12
+refusalNumber BufferTooShort = 13
 
 -- the first "no" of a call's questions, or 0
 abbrev pub askedNumber : Asked → ℕ
@@ -71,3 +79,18 @@ abbrev pub auditAnswerReply : AuditAnswer → Reply
 auditAnswerReply AuditAnswer.Sound = sound
 auditAnswerReply (AuditAnswer.Broken r) = broken (ruleNumber r)
 auditAnswerReply (AuditAnswer.Refused r) = refused (refusalNumber r)
+
+-- writing a text: its length, or the refusal
+abbrev pub TellsLength : LengthAnswer → Reply → Type 0
+TellsLength (LengthAnswer.Length n) r = (bytes : List ℕ) × (r ≡ text bytes) × (n ≡ length bytes)
+TellsLength (LengthAnswer.Refused f) r = r ≡ refused (refusalNumber f)
+
+-- the part of the buffer that the reply to writing a text fills: of a refusal nothing
+abbrev pub filledPart : Reply → List ℕ
+filledPart (value w) = []
+filledPart (refused n) = []
+filledPart idle = []
+filledPart (applied k n) = []
+filledPart sound = []
+filledPart (broken n) = []
+filledPart (text bytes) = bytes

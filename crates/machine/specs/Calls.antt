@@ -23,6 +23,9 @@ pub data Call : Type 0 where
   row : RowCall → Call
   step : Call
   audit : Call
+  -- rule text (document 02, A4): the text's bytes; the word, and the room in the buffer lent for its text
+  read : List ℕ → Call
+  write : ℕ → ℕ → Call
 
 -- a reply with the paper's numbers
 pub data Reply : Type 0 where
@@ -32,6 +35,8 @@ pub data Reply : Type 0 where
   applied : ℕ → ℕ → Reply
   sound : Reply
   broken : ℕ → Reply
+  -- the text written, the front of the buffer
+  text : List ℕ → Reply
 
 -- what is lent to a call; a row call and fresh are lent no scratch
 pub record Store : Type 0 where

@@ -8,6 +8,8 @@ pub mod Counts
 pub mod Reached
 pub mod Calls
 pub mod Step
+pub mod Texts
+pub mod TextFacts
 pub mod Questions
 pub mod Audit
 pub mod Facts

@@ -1,18 +1,23 @@
--- "Questions before a call": the ten questions, and for each call which are asked in what order.
-use mathlib.Core.Bool.{Bool, true, false, cond, _&&_, _||_}
+-- "Questions before a call", with those of document 02: the questions, and for each call which are asked in what order.
+use mathlib.Core.Bool.{Bool, true, false, cond, not, _&&_, _||_}
 use mathlib.Core.List.{List, [], _∷_, _++_}
-use Prim.Native.Nat.{ℕ, suc}
+use Prim.Native.Nat.{ℕ, suc, pred, _+_}
 use lib.Dec.{leb, ltb, eqb}
 use lib.ListN.{length}
+use Rattle.notation.specs.Trees.{pairs}
+use Rattle.notation.specs.Grammar.{mostText}
+use Rattle.notation.specs.Parse.{parse, isTree, meaning}
+use Rattle.notation.specs.Brackets.{tooDeep, firstMet}
 use Rattle.machine.specs.declared.Queue.{Queue}
-use Rattle.machine.specs.Range.{every, exists, everyOf}
+use Rattle.machine.specs.Range.{every, exists, select, everyOf}
 use Rattle.machine.specs.Words.{isNil, isCell, isLegal, ceiling, mostCells}
 use Rattle.machine.specs.Table.{capacity, firstFree, lastFree, tableLength, scratchWords, isFree}
 use Rattle.machine.specs.Queue.{Packet, slots, appended, waiting}
 use Rattle.machine.specs.Packets.{uses}
 use Rattle.machine.specs.Counts.{heldAtLeast, heldAtMost, pointers}
 use Rattle.machine.specs.Calls.{RowCall, car, cdr, cons, setLeft, setRight, up, down}
-use Rattle.machine.specs.Calls.{Call, fresh, row, step, audit, Store, packetOf, readsNil, written}
+use Rattle.machine.specs.Calls.{Call, fresh, row, step, audit, read, write, Store, packetOf, readsNil, written}
+use Rattle.machine.specs.Texts.{textFor}
 
 -- a question's number, and its answer
 pub record Question : Type 0 where
@@ -90,11 +95,39 @@ heldWithin t ps = every (capacity t) (λ i. heldAtMost t ps i ceiling)
 unfoldable pub pointersWithin : List ℕ → Bool
 pointersWithin t = every (capacity t) (λ i. leb (pointers t (suc i)) ceiling)
 
+-- 11. of a text read: it is in the notation, and has at most 4,096 bytes
+unfoldable pub inNotation : List ℕ → Bool
+inNotation text = leb (length text) mostText && isTree (parse text)
+
+-- 12. of a text read: at most 32 brackets are open together
+unfoldable pub notTooDeep : List ℕ → Bool
+notTooDeep text = not (tooDeep 0 text)
+
+-- the pairs that a text takes
+unfoldable pub textPairs : List ℕ → ℕ
+textPairs text = pairs (meaning (parse text))
+
+-- 7. of a text read: as many queue slots are empty as it has pairs
+unfoldable pub slotsEmpty : Queue → ℕ → Bool
+slotsEmpty q n = leb (q .count + n) slots
+
+-- 8. of a text read: as many cells are free
+unfoldable pub cellsFree : List ℕ → ℕ → Bool
+cellsFree t n = leb n (length (select (capacity t) (isFree t)))
+
+-- 6. of a word written: a cell is held; nil and atoms need no hold
+unfoldable pub wordHeld : List ℕ → List Packet → ℕ → Bool
+wordHeld t ps w = cond (isCell (capacity t) w) (heldAtLeast t ps (pred w) 1) true
+
+-- 12 and 13 of a word written, by which is met first: no bracket too many, and no byte without room
+unfoldable pub met : ℕ → List ℕ → ℕ → ℕ
+met room t w = firstMet room 0 (textFor room t w)
+
 -- question 5 of a read, from which a read of nil is free: it is asked 1 and 4 only (document 02, A1)
 abbrev pub askRead : List ℕ → ℕ → List Question
 askRead t x = cond (isNil x) [] (ask 5 (xIsCell t x) ∷ [])
 
--- questions 1 to 5, which have an answer on every store
+-- questions 1 to 5, and 11 and 12 of a text read, which have an answer on every store
 unfoldable pub earlyRow : List ℕ → RowCall → List Question
 earlyRow t (car x) = ask 4 (wordsLegal t (x ∷ [])) ∷ askRead t x
 earlyRow t (cdr x) = ask 4 (wordsLegal t (x ∷ [])) ∷ askRead t x
@@ -109,6 +142,8 @@ early s (fresh c) = ask 3 (cellsInRange c) ∷ ask 1 (longEnough c (s .table)) �
 early s (row r) = ask 1 (inRange (s .table) (s .queue)) ∷ earlyRow (s .table) r
 early s step = ask 1 (inRange (s .table) (s .queue)) ∷ ask 2 (scratchEnough (s .table) (s .scratch)) ∷ []
 early s audit = ask 1 (inRange (s .table) (s .queue)) ∷ ask 2 (scratchEnough (s .table) (s .scratch)) ∷ []
+early s (read text) = ask 1 (inRange (s .table) (s .queue)) ∷ ask 11 (inNotation text) ∷ ask 12 (notTooDeep text) ∷ []
+early s (write w room) = ask 1 (inRange (s .table) (s .queue)) ∷ ask 4 (wordsLegal (s .table) (w ∷ [])) ∷ []
 
 -- question 8 is cons's alone
 unfoldable pub askFree : List ℕ → RowCall → List Question
@@ -137,6 +172,12 @@ late s (fresh c) = []
 late s (row r) = lateRow (s .table) (s .queue) r
 late s step = []
 late s audit = []
+late s (read text) = ask 7 (slotsEmpty (s .queue) (textPairs text)) ∷ ask 8 (cellsFree (s .table) (textPairs text)) ∷ []
+late s (write w room) =
+    ask 6 (wordHeld (s .table) (waiting (s .queue)) w)
+    ∷ ask 12 (not (eqb (met room (s .table) w) 12))
+    ∷ ask 13 (not (eqb (met room (s .table) w) 13))
+    ∷ []
 
 unfoldable pub questions : Store → Call → List Question
 questions s call = early s call ++ late s call

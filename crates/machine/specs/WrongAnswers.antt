@@ -4,11 +4,12 @@ use mathlib.Core.Bool.{true, cond}
 use mathlib.Core.List.{List, [], _∷_, _++_, map}
 use Prim.Native.Nat.{ℕ, zero, suc, _*_}
 use lib.ListN.{take, set, replicate}
+use Rattle.base_ten.specs.Bytes.{ascii}
 use Rattle.machine.specs.declared.Queue.{Queue}
 use Rattle.machine.specs.Table.{stride, tableLength, capacity, scratchWords}
 use Rattle.machine.specs.Queue.{Packet, packet, slots, emptyQueue, putSlot, appended}
-use Rattle.machine.specs.Calls.{Call, fresh, row, step, audit, RowCall, car, cdr, cons, setLeft, setRight, up, down}
-use Rattle.machine.specs.Calls.{Reply, value, refused, idle, applied, sound, broken, Store, store, readsNil}
+use Rattle.machine.specs.Calls.{Call, fresh, row, step, audit, read, write, RowCall, car, cdr, cons, setLeft, setRight, up, down}
+use Rattle.machine.specs.Calls.{Reply, value, refused, idle, applied, sound, broken, text, Store, store, readsNil}
 use Rattle.machine.specs.Step.{cleared}
 use Rattle.machine.specs.Questions.{Question, inRange, questions}
 use Rattle.machine.specs.Audit.{rules}
@@ -295,6 +296,40 @@ S4-entries =
 abbrev pub S5-entries : List Entry
 S5-entries = findings 5 [] (tables ((1 ∷ 0 ∷ 0 ∷ 1 ∷ 0 ∷ 0 ∷ 1 ∷ 1 ∷ []) ∷ []))
 
+-- three free cells
+abbrev clear : List ℕ
+clear = 3 ∷ 1 ∷ 3 ∷ 2 ∷ 0 ∷ 0 ∷ 0 ∷ 0 ∷ 3 ∷ 0 ∷ 0 ∷ 0 ∷ 0 ∷ 0 ∷ 0 ∷ 0 ∷ 0 ∷ 0 ∷ 77 ∷ []
+
+-- Rule text (document 02, A4).
+abbrev pub text-entries : List Entry
+text-entries =
+    -- pairs built first to last, or with their parts exchanged; a reader that gains no hold, or one of each cell; one that queues nothing
+    gives (lent clear emptyQueue) (read (ascii "(1 2)")) (value 2)
+    (lent (3 ∷ 3 ∷ 3 ∷ 32770 ∷ 0 ∷ 1 ∷ 0 ∷ 1 ∷ 32769 ∷ 1 ∷ 1 ∷ 0 ∷ 1 ∷ 0 ∷ 0 ∷ 0 ∷ 0 ∷ 0 ∷ 77 ∷ []) (appended (only (packet 2 32770 0 1)) (packet 2 32769 1 2)))
+    -- what the second element needs built before what the first needs
+    ∷ gives (lent clear emptyQueue) (read (ascii "((1) . (2))")) (value 3)
+    (lent (3 ∷ 0 ∷ 0 ∷ 32769 ∷ 0 ∷ 1 ∷ 0 ∷ 1 ∷ 32770 ∷ 0 ∷ 1 ∷ 0 ∷ 1 ∷ 1 ∷ 2 ∷ 1 ∷ 0 ∷ 1 ∷ 77 ∷ [])
+    (appended (appended (only (packet 2 32769 0 1)) (packet 2 32770 0 2)) (packet 2 1 2 3)))
+    -- a text without pairs refused for want of a slot or of a cell
+    ∷ gives busy (read (ascii "7")) (value 32775) busy
+    ∷ gives (lent alone emptyQueue) (read (ascii "()")) (value 0) (lent alone emptyQueue)
+    -- cells taken although there is no slot, or none free for one pair of two; 7 after 8
+    ∷ refuses busy (read (ascii "(1)")) 7 []
+    ∷ refuses quiet (read (ascii "(1 2)")) 8 []
+    ∷ refuses busy (read (ascii "(1 2)")) 7 (8 ∷ [])
+    -- a text outside the notation taken, or judged before question 1
+    ∷ refuses quiet (read (ascii "(1 . 2 3)")) 11 []
+    ∷ refuses outside (read (ascii "(1")) 1 (11 ∷ [])
+    -- a writer that drops the dot or a bracket, gives up the hold, or wants room behind the text
+    ∷ gives quiet (write 1 8) (text (ascii "(() . 7)")) quiet
+    -- one that fits a text into too little room; that writes a cell which is not held, or a word that is not legal
+    ∷ refuses quiet (write 1 7) 13 []
+    ∷ refuses quiet (write 2 9) 6 []
+    ∷ refuses quiet (write 3 9) 4 []
+    -- a hold asked of nil, and a slot
+    ∷ gives busy (write 0 2) (text (ascii "()")) busy
+    ∷ []
+
 pub record WrongAnswers : Type 0 where
   -- for any store and call where the papers decide
   pub first-no : (s : Store) (call : Call) (n : ℕ) (ns : List ℕ) → Decided s call → noes (questions s call) ≡ suc n ∷ ns
@@ -308,6 +343,7 @@ pub record WrongAnswers : Type 0 where
   pub order : AllOnly order-entries
   pub rows : AllOnly row-entries
   pub nils : AllOnly nil-entries
+  pub texts : AllOnly text-entries
   pub freshes : AllOnly fresh-entries
   pub steps : AllOnly step-entries
   pub place-63 : AllOnly ring-entries

@@ -92,7 +92,7 @@ impl CellCount {
     }
 }
 
-// The ten questions, by what a "no" says; specs/Answers.antt gives the paper's number of each.
+// The questions, by what a "no" says; specs/Answers.antt gives the paper's number of each.
 pub enum Refusal {
     StoreOutOfRange,
     ScratchTooShort,
@@ -104,6 +104,9 @@ pub enum Refusal {
     NoFreeCell,
     HeldCountTooHigh,
     TooManyPointers,
+    NotInNotation,
+    TooDeep,
+    BufferTooShort,
 }
 
 impl Refusal {
@@ -121,6 +124,9 @@ impl Refusal {
             Refusal::NoFreeCell => 8,
             Refusal::HeldCountTooHigh => 9,
             Refusal::TooManyPointers => 10,
+            Refusal::NotInNotation => 11,
+            Refusal::TooDeep => 12,
+            Refusal::BufferTooShort => 13,
         }
     }
 }
@@ -185,5 +191,11 @@ impl Rule {
 pub enum AuditAnswer {
     Sound,
     Broken(Rule),
+    Refused(Refusal),
+}
+
+// How many bytes the text of a word has, where it can be written, or the refusal.
+pub enum LengthAnswer {
+    Length(usize),
     Refused(Refusal),
 }

@@ -9,7 +9,7 @@ use Rattle.machine.specs.declared.Queue.{Queue}
 use Rattle.machine.specs.declared.RowCall as declared
 use Rattle.machine.specs.Words.{mostCells}
 use Rattle.machine.specs.Table.{capacity}
-use Rattle.machine.specs.Calls.{Call, fresh, row, step, audit, RowCall, Reply, refused, Store, store}
+use Rattle.machine.specs.Calls.{Call, fresh, row, step, audit, read, write, RowCall, Reply, refused, Store, store}
 use Rattle.machine.specs.Answers.{callOf}
 use Rattle.machine.specs.Step.{Outcome, outcome}
 use Rattle.machine.specs.Questions.{firstNo, inRange, early, late, questions}
@@ -61,6 +61,14 @@ module _ (s : Store) (h : capacity (s .table) ≡ 0) where
   unfolding firstNo early questions
   audit-refused = (rw (unmade-out (s .table) (s .queue) h), rw (unmade-out (s .table) (s .queue) h))
 
+  read-refused : (bytes : List ℕ) → (firstNo (early s (read bytes)) ≡ 1) × (firstNo (questions s (read bytes)) ≡ 1)
+  unfolding firstNo early questions
+  read-refused bytes = (rw (unmade-out (s .table) (s .queue) h), rw (unmade-out (s .table) (s .queue) h))
+
+  write-refused : (w room : ℕ) → (firstNo (early s (write w room)) ≡ 1) × (firstNo (questions s (write w room)) ≡ 1)
+  unfolding firstNo early questions
+  write-refused w room = (rw (unmade-out (s .table) (s .queue) h), rw (unmade-out (s .table) (s .queue) h))
+
   refused-good : (call : Call) (r : Reply) (s′ : Store) → Promise s call r s′ → (firstNo (early s call) ≡ 1) × (firstNo (questions s call) ≡ 1)
       → Exact s call r s′
   refused-good call r s′ p e =
@@ -87,6 +95,8 @@ unmade-exact s (fresh c) r s′ h p =
 unmade-exact s (row k) r s′ h p = refused-good s h (row k) r s′ p (row-refused s h k)
 unmade-exact s step r s′ h p = refused-good s h step r s′ p (step-refused s h)
 unmade-exact s audit r s′ h p = refused-good s h audit r s′ p (audit-refused s h)
+unmade-exact s (read bytes) r s′ h p = refused-good s h (read bytes) r s′ p (read-refused s h bytes)
+unmade-exact s (write w room) r s′ h p = refused-good s h (write w room) r s′ p (write-refused s h w room)
 
 pub exact : (s : Store) (call : Call) (r : Reply) (s′ : Store) → Promise s call r s′ → Good (s .table) (s .queue) → Exact s call r s′
 exact s call r s′ p g =

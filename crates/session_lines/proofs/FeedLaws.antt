@@ -5,18 +5,19 @@ use Prim.Native.Nat.{ℕ, zero, suc, _+_, _-_, _≤_, _<_, min}
 use native.Mathlib.Omega.{arith}
 use lib.ListN.{length, take, drop, length-drop, take-append-drop}
 use lib.Seq.{take-add, take-length}
+use Rattle.base_ten.specs.Bytes.{lineFeed, before, split}
+use Rattle.base_ten.specs.Put.{Put}
+use Rattle.base_ten.proofs.WordLaws.{append-none, before-most}
 use Rattle.machine.specs.declared.Queue.{Queue}
 use Rattle.machine.specs.Calls.{store}
 use Rattle.line_text.specs.declared.Request.{Request}
 use Rattle.line_text.specs.declared.Verdict.{Verdict}
-use Rattle.line_text.specs.Bytes.{lineFeed, before, split}
 use Rattle.line_text.specs.Requests.{requestOf}
 use Rattle.line_text.specs.Kept.{keptBytes, Keeps}
 use Rattle.line_text.specs.Texts.{room, outputLine}
-use Rattle.line_text.specs.Put.{Put, ShowsTens, Next}
+use Rattle.line_text.specs.Put.{ShowsTens, Next}
 use Rattle.line_text.proofs.PutLaws.{output-length}
 use Rattle.line_text.proofs.RequestLaws.{last-part}
-use Rattle.line_text.proofs.WordLaws.{append-none, before-most}
 use Rattle.line_text.proofs.KeepLaws.{take-cap}
 use Rattle.session_lines.specs.declared.Session.{Session}
 use Rattle.session_lines.specs.Listing.{listed}

@@ -8,13 +8,13 @@ use lib.Dec.{leb, eqb}
 use lib.ListN.{length, take, length-append}
 use lib.Seq.{take-all, length-take-le}
 use borrow.Author.Tests.{leb-true, leb-false}
+use Rattle.base_ten.specs.Bytes.{lineFeed, before, split, onFirst, linesOf}
+use Rattle.base_ten.proofs.WordLaws.{append-none}
 use Rattle.machine.specs.Calls.{Store}
-use Rattle.line_text.specs.Bytes.{lineFeed, before, split, onFirst, linesOf}
 use Rattle.line_text.specs.Requests.{requestOf}
 use Rattle.line_text.specs.Kept.{keptBytes}
 use Rattle.session_lines.specs.Listing.{listed}
 use Rattle.session_lines.specs.Progress.{lastLine, onto}
-use Rattle.line_text.proofs.WordLaws.{append-none}
 use Rattle.line_text.proofs.KeepLaws.{capped, request-capped}
 
 pub onto-none : (ls : List (List ℕ)) → onto [] ls ≡ ls

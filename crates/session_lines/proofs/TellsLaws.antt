@@ -6,12 +6,12 @@ use native.Mathlib.Numerals.{add-one}
 use native.Mathlib.Omega.{arith}
 use lib.ListN.{length, take, length-append}
 use lib.Seq.{length-take-le}
+use Rattle.base_ten.specs.Bytes.{lineFeed, before, linesOf}
 use Rattle.machine.specs.declared.Queue.{Queue}
 use Rattle.machine.specs.Calls.{Store, store}
 use Rattle.line_text.specs.declared.Request.{Request}
 use Rattle.line_text.specs.declared.Verdict.{Verdict}
 use Rattle.session_lines.specs.declared.Session.{Session}
-use Rattle.line_text.specs.Bytes.{lineFeed, before, linesOf}
 use Rattle.line_text.specs.Requests.{requestOf}
 use Rattle.line_text.specs.Kept.{keptBytes, Keeps}
 use Rattle.line_text.specs.Put.{Next}

@@ -4,14 +4,14 @@ use mathlib.Core.List.{List, [], _∷_, _++_}
 use Prim.Native.Nat.{ℕ, _+_, _^_, _<_}
 use native.Mathlib.Omega.{arith}
 use lib.ListN.{length, take}
-use Rattle.line_text.specs.Bytes.{linesOf}
+use Rattle.base_ten.specs.Bytes.{linesOf}
+use Rattle.base_ten.proofs.WordLaws.{append-none}
 use Rattle.session_lines.specs.Listing.{listed, listingWith, listing}
 use Rattle.machine.specs.Words.{mostCells}
 use Rattle.serving.specs.Serving.{unmade}
 use Rattle.serving.proofs.ServeLaws.{unmade-good}
 use Rattle.session_lines.specs.Progress.{ahead, Tells, Feeds, Finishes}
 use Rattle.session_lines.specs.Whole.{State, Part, Fed, lastState, inputs, outputs, begin, Whole}
-use Rattle.line_text.proofs.WordLaws.{append-none}
 use Rattle.session_lines.proofs.LineLaws.{onto-none}
 use Rattle.session_lines.proofs.TellsLaws.{tells-both, tells-none}
 

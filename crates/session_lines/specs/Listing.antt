@@ -1,9 +1,9 @@
 -- The listing of an input: what the session program writes, as a definition on the list of the input's bytes.
 use mathlib.Core.List.{List, [], _∷_, _++_}
 use Prim.Native.Nat.{ℕ, suc}
+use Rattle.base_ten.specs.Bytes.{linesOf}
 use Rattle.machine.specs.Words.{mostCells}
 use Rattle.machine.specs.Calls.{Store}
-use Rattle.line_text.specs.Bytes.{linesOf}
 use Rattle.line_text.specs.Requests.{requestOf}
 use Rattle.line_text.specs.Texts.{outputLine}
 use Rattle.serving.specs.Serving.{served, unmade}

@@ -3,10 +3,10 @@ use mathlib.Core.Path.{_≡_}
 use mathlib.Core.List.{List, [], _∷_, _++_}
 use Prim.Native.Nat.{ℕ, _+_, _^_, _≤_, _<_}
 use lib.ListN.{length, take, replicate}
+use Rattle.base_ten.specs.Bytes.{lineFeed, linesOf}
 use Rattle.machine.specs.declared.Queue.{Queue}
 use Rattle.machine.specs.Queue.{emptyQueue}
 use Rattle.machine.specs.Calls.{Store, store}
-use Rattle.line_text.specs.Bytes.{lineFeed, linesOf}
 use Rattle.line_text.specs.Kept.{keptBytes}
 use Rattle.line_text.specs.Texts.{room}
 use Rattle.session_lines.specs.declared.Session.{Session}

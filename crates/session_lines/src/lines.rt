@@ -1,13 +1,13 @@
 // Lines served where they lie in the input.
 use crate::Fed;
 use crate::Session;
+use base_ten::bytes::find;
+use base_ten::put::MOST_DIGITS;
 use line_text::Request;
 use line_text::Verdict;
-use line_text::bytes::find;
 use line_text::kept::KEPT_BYTES;
 use line_text::kept::keep;
 use line_text::parse::parse;
-use line_text::texts::MOST_DIGITS;
 use line_text::texts::ROOM;
 use line_text::texts::count_up;
 use line_text::texts::next_number;
@@ -21,7 +21,7 @@ ghost use mathlib.Core.Path.{_≡_};
 ghost use mathlib.Core.List.{_++_};
 ghost use Prim.Native.Nat.{_+_, _≤_};
 ghost use lib.ListN.{length, take, drop};
-ghost use Rattle.line_text.specs.Bytes.{lineFeed, before};
+ghost use Rattle.base_ten.specs.Bytes.{lineFeed, before};
 ghost use Rattle.line_text.specs.Requests.{requestOf};
 ghost use Rattle.line_text.specs.Kept.{keptBytes};
 ghost use Rattle.session_lines.specs.Progress.{sessionOf, FeedsLines};

@@ -92,7 +92,7 @@ module _ (t : List ℕ) (ps : List Packet) (f : Facts t ps) (new : ℕ) (rest : 
   unfolding occurrences
   was-free = free-not-in-use t new (chain-free t (new ∷ rest) chain new below (omega (arith, matching-same new new 1 refl)))
 
-  new-used : inUse u new ≡ true
+  pub new-used : inUse u new ≡ true
   unfolding inUse
   new-used = lt-ltb 0 (wordAt u new state) (omega (arith, new-word state (omega arith)))
 
@@ -106,7 +106,7 @@ module _ (t : List ℕ) (ps : List Packet) (f : Facts t ps) (new : ℕ) (rest : 
   unfolding inUse
   same-use i d = ap (ltb 0) (other i state (omega arith) d)
 
-  keeps : (i : ℕ) → inUse t i ≡ true → inUse u i ≡ true
+  pub keeps : (i : ℕ) → inUse t i ≡ true → inUse u i ≡ true
   keeps = each-cell (λ i. inUse t i ≡ true → inUse u i ≡ true) (λ _. new-used) (λ i d e. same-use i d ∙ e)
 
   grows : (w : ℕ) → Fit t w → Fit u w

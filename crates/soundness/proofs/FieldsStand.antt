@@ -13,7 +13,7 @@ use Rattle.machine.specs.Words.{isNil, isCell}
 use Rattle.machine.specs.Table.{left, right, capacity, wordAt, putWord}
 use Rattle.machine.specs.Queue.{Packet, waiting}
 use Rattle.machine.specs.Packets.{kindOf, usesOf, uses, changes}
-use Rattle.machine.specs.Calls.{Call, fresh, row, step, audit, RowCall, car, cdr, cons, setLeft, setRight, up, down}
+use Rattle.machine.specs.Calls.{Call, fresh, row, step, audit, read, write, RowCall, car, cdr, cons, setLeft, setRight, up, down}
 use Rattle.machine.specs.Calls.{Reply, refused, Store, store, field, packetOf, readsNil, written, wordRead, valueOf, freshTable}
 use Rattle.machine.specs.Step.{applyChanges, stepWith, stepFrom, stepped}
 use Rattle.machine.specs.Questions.{firstNo, xIsCell, earlyRow, askFree, questions}
@@ -27,7 +27,7 @@ use Rattle.machine.proofs.Table.{Inside, room, word-same, word-other, capacity-
 use Rattle.machine.proofs.Kept.{machine-cases, gives-machine}
 use Rattle.machine.proofs.NilReads.{nil-cases, read-cell, row-cases}
 use Rattle.soundness.specs.Demand3.{Link, Joined, Begun, tableAfter, answers}
-use Rattle.soundness.specs.Reliable.{Fields, fields, puts, put, fieldsFrom, fieldsAfter, FieldsStand, RepliesField}
+use Rattle.soundness.specs.Reliable.{Fields, fields, puts, put, fieldsFrom, fieldsAfter, FieldsStand, RepliesField, NoTextRead}
 use Rattle.soundness.specs.Whole.{Whole}
 use Rattle.soundness.proofs.Stages.{used-put}
 use Rattle.soundness.proofs.Facts.{Facts, sound-facts}
@@ -164,16 +164,22 @@ pub nil-replies : (r : RowCall) → readsNil r ≡ true → (g : ℕ → Fields)
 unfolding isNil
 nil-replies r e g = nil-cases r e (λ k. RepliesField g k 0) refl refl
 
--- every call of the machine, and whoever keeps the promise, puts what the answer tells
-accepted-put : (s : Store) (call : Call) (g : ℕ → Fields) → Whole (s .table) (s .queue) → FieldsStand (s .table) g → firstNo (questions s call) ≡ 0
+-- the call reads no text
+abbrev NoText : Call → Type 0
+NoText call = (bytes : List ℕ) → call ≡ read bytes → ⊥
+
+-- every other call of the machine, and whoever keeps the promise, puts what the answer tells
+accepted-put : (s : Store) (call : Call) (g : ℕ → Fields) → Whole (s .table) (s .queue) → FieldsStand (s .table) g → NoText call → firstNo (questions s call) ≡ 0
     → FieldsStand (accepted s call .after .table) (λ c. put c call (accepted s call .reply) (g c))
 unfolding put accepted stepped audited
-accepted-put s (fresh c) g w h e = fresh-put s c g e
-accepted-put s (row r) g w h e =
+accepted-put s (fresh c) g w h m e = fresh-put s c g e
+accepted-put s (row r) g w h m e =
     row-cases s r (λ o. FieldsStand (o .after .table) (λ c. put c (row r) (o .reply) (g c))) (λ n. nil-put (s .table) r n g h)
     (λ n. row-put (s .table) (s .queue) (sound-facts (s .table) (s .queue) (w .sound)) g h r (row-yes s r n (w .arrays) e))
-accepted-put s step g w h e = stepped-put s g w h (waiting (s .queue)) refl
-accepted-put s audit g w h e = h
+accepted-put s step g w h m e = stepped-put s g w h (waiting (s .queue)) refl
+accepted-put s audit g w h n e = h
+accepted-put s (read text) g w h n e = absurd (n text refl)
+accepted-put s (write x room) g w h n e = h
 
 refused-put : (t : List ℕ) (call : Call) (n : ℕ) (g : ℕ → Fields) → FieldsStand t g → FieldsStand t (λ c. put c call (refused n) (g c))
 unfolding put
@@ -181,29 +187,31 @@ refused-put t (fresh c) n g h = h
 refused-put t (row r) n g h = h
 refused-put t step n g h = h
 refused-put t audit n g h = h
+refused-put t (read text) n g h = h
+refused-put t (write w room) n g h = h
 
 pub promise-put : (s : Store) (call : Call) (r : Reply) (after : Store) (g : ℕ → Fields) → Promise s call r after → Whole (s .table) (s .queue)
-    → FieldsStand (s .table) g → FieldsStand (after .table) (λ c. put c call r (g c))
-promise-put s call r after g p w h =
+    → FieldsStand (s .table) g → NoText call → FieldsStand (after .table) (λ c. put c call r (g c))
+promise-put s call r after g p w h m =
     let e = gives-machine s call r after (p .exact (decided s call (w .sound))) in
     rw (e .0, e .1) (machine-cases s call (λ o. FieldsStand (o .after .table) (λ c. put c call (o .reply) (g c)))
-    (accepted-put s call g w h) (λ n d. refused-put (s .table) call (suc n) g h))
+    (accepted-put s call g w h m) (λ n d. refused-put (s .table) call (suc n) g h))
 
-links-put : (t : List ℕ) (q : Queue) (g : ℕ → Fields) (ls : List Link) → Whole t q → FieldsStand t g → Joined t q ls
+links-put : (t : List ℕ) (q : Queue) (g : ℕ → Fields) (ls : List Link) → Whole t q → FieldsStand t g → Joined t q ls → NoTextRead ls
     → FieldsStand (tableAfter t ls) (λ c. fieldsFrom (g c) (answers ls) c)
 unfolding fieldsFrom
-links-put t q g [] w h j = h
-links-put t q g (l ∷ ls) w h j =
+links-put t q g [] w h j m = h
+links-put t q g (l ∷ ls) w h j m =
     let s = store t q (l .scratch) in
     links-put (l .after .table) (l .after .queue) (λ c. put c (l .call) (l .reply) (g c)) ls
-    (promise-whole s (l .call) (l .reply) (l .after) (j .0) w) (promise-put s (l .call) (l .reply) (l .after) g (j .0) w h) (j .1)
+    (promise-whole s (l .call) (l .reply) (l .after) (j .0) w) (promise-put s (l .call) (l .reply) (l .after) g (j .0) w h (m .0)) (j .1) (m .1)
 
 -- an accepted fresh leaves no cell in use
-pub fields-stand : (t : List ℕ) (q : Queue) (ls : List Link) → Begun ls → Joined t q ls → FieldsStand (tableAfter t ls) (fieldsAfter ls)
+pub fields-stand : (t : List ℕ) (q : Queue) (ls : List Link) → Begun ls → Joined t q ls → NoTextRead ls → FieldsStand (tableAfter t ls) (fieldsAfter ls)
 unfolding fieldsFrom accepted
-fields-stand t q [] b j = absurd b
-fields-stand t q (l ∷ ls) b j =
+fields-stand t q [] b j m = absurd b
+fields-stand t q (l ∷ ls) b j m =
     let s = store t q (l .scratch) in
     let a = value-accepted s (fresh (b .0)) (b .1) (l .after) tt (rw (b .2, b .3) at (j .0)) in
     let g : ℕ → Fields = λ c. put c (l .call) (l .reply) (fields 0 0) in
-    links-put (l .after .table) (l .after .queue) g ls (rw (a .after) (fresh-whole s (b .0) (a .asked))) (rw (a .after) (fresh-put s (b .0) g (a .asked))) (j .1)
+    links-put (l .after .table) (l .after .queue) g ls (rw (a .after) (fresh-whole s (b .0) (a .asked))) (rw (a .after) (fresh-put s (b .0) g (a .asked))) (j .1) (m .1)

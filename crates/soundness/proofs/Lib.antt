@@ -32,6 +32,10 @@ pub mod Untrimmed
 pub mod Stands
 pub mod CodeTests
 pub mod RaisedCells
+-- text read
+pub mod BuiltCells
+pub mod FreeCells
+pub mod TextRead
 -- holds, demand 3, and that it bites
 pub mod RootsAreHolds
 pub mod Theorem

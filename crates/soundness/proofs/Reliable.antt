@@ -3,7 +3,7 @@ use mathlib.Core.Path.{_≡_, refl, sym, ap, ap₂, subst, _∙_}
 use mathlib.Core.Logic.{_↔_, inl, ⊎-elim}
 use mathlib.Core.Bool.{true}
 use mathlib.Core.List.{List, [], _∷_}
-use Prim.Native.Nat.{ℕ, suc, _+_, _-_, _≤_, _<_}
+use Prim.Native.Nat.{ℕ, suc, pred, _+_, _-_, _≤_, _<_}
 use native.Mathlib.Omega.{arith}
 use lib.ListN.{length}
 use borrow.Author.Tests.{le-leb, leb-true}
@@ -13,11 +13,11 @@ use Rattle.machine.specs.Queue.{Packet, putSlot, taken, packetsFrom, waiting}
 use Rattle.machine.specs.Packets.{root, plus, minus, waitingChange}
 use Rattle.machine.specs.Counts.{heldAtLeast}
 use Rattle.machine.specs.Reached.{pointsTo, begun, onward, ReachedFrom}
-use Rattle.machine.specs.Calls.{row, step, cons, Reply, value, refused, Store, store, packetOf, readsNil, valueOf}
+use Rattle.machine.specs.Calls.{row, step, read, cons, Reply, value, refused, Store, store, packetOf, readsNil, valueOf}
 use Rattle.machine.specs.Step.{stepWith, stepFrom, stepped}
 use Rattle.machine.specs.Questions.{firstNo, scratchEnough, cellFree, earlyRow, early, askFree, lateRow, late, questions}
 use Rattle.machine.specs.Audit.{Sound}
-use Rattle.machine.specs.Machine.{accepted, machine}
+use Rattle.machine.specs.Machine.{textRead, accepted, machine}
 use Rattle.machine.specs.Promise.{Promise}
 use Rattle.machine.proofs.Range.{tested, exists-some}
 use Rattle.machine.proofs.Table.{not-in-use-free}
@@ -26,13 +26,13 @@ use Rattle.machine.proofs.Questions.{firstNo-zero, firstNo-other}
 use Rattle.machine.proofs.Kept.{machine-accepted, machine-cases, gives-machine}
 use Rattle.machine.proofs.NilReads.{only-nil, row-cases}
 use Rattle.soundness.specs.Demand3.{Link, Joined, tableAfter, queueAfter, Holds, holds, moved, holdsAfter, Held}
-use Rattle.soundness.specs.Reliable.{Fields, put, fieldsAfter, FieldsStand, RepliesField, Steps, ReadsBack, EndsInNil, NewIsFree, HeldByHolds, Drains, FullOfHeld, Relied, Reliable}
+use Rattle.soundness.specs.Reliable.{Fields, fields, put, fieldsAfter, FieldsStand, RepliesField, Steps, ReadsBack, Told, EndsInNil, NewIsFree, HeldByHolds, Drains, FullOfHeld, ReadsText, Relied, Reliable}
 use Rattle.soundness.proofs.Facts.{sound-facts}
 use Rattle.soundness.proofs.FreeChain.{chain-some}
 use Rattle.soundness.proofs.RowQuestions.{row-yes}
 use Rattle.soundness.proofs.Cons.{was-free}
 use Rattle.soundness.proofs.RowWrites.{cons-case}
-use Rattle.soundness.proofs.CallSound.{decided, value-accepted}
+use Rattle.soundness.proofs.CallSound.{decided, value-accepted, text-built}
 use Rattle.soundness.proofs.RootsAreHolds.{Agrees, nil-moves}
 use Rattle.soundness.proofs.Theorem.{promise-agrees, from-held, exact-when-done, covered}
 use Rattle.soundness.proofs.FieldsStand.{row-replies, nil-replies, promise-put, fields-stand}
@@ -54,7 +54,7 @@ module _ (t : List ℕ) (q : Queue) (s : List ℕ) (h : Sound t q) (enough : scr
   one-less [] e = omega (arith, length-waiting q, ap length e)
   one-less (p ∷ ps) e = refl
 
-  step-takes : (r : Reply) (after : Store) → Promise (store t q s) step r after → after .queue .count ≡ q .count - 1
+  pub step-takes : (r : Reply) (after : Store) → Promise (store t q s) step r after → after .queue .count ≡ q .count - 1
   unfolding accepted stepped
   step-takes r after p =
       rw (gives-machine (store t q s) step r after (p .exact (decided (store t q s) step h)) .1, machine-accepted (store t q s) step asked)
@@ -67,6 +67,9 @@ record Stepped (t : List ℕ) (q : Queue) (h : ℕ → Holds) (g : ℕ → Field
   same : capacity (tableAfter t ls) ≡ capacity t
   count : queueAfter q ls .count ≡ q .count - length ls
 
+no-text : (bytes : List ℕ) → step ≡ read bytes → ⊥
+no-text bytes e = let z : _≡_ {A = ℕ} 0 1 = cc in omega arith
+
 steps-leave : (t : List ℕ) (q : Queue) (h : ℕ → Holds) (g : ℕ → Fields) (ls : List Link) → Agrees t q h → FieldsStand t g → Joined t q ls
     → Steps (scratchWords (capacity t)) ls → Stepped t q h g ls
 unfolding moved put
@@ -76,7 +79,7 @@ steps-leave t q h g (l ∷ ls) a f j n =
     let p = rw (n .0) at (j .0) in
     let c = p .bounded .sameCapacity in
     let rest = steps-leave (l .after .table) (l .after .queue) h g ls (promise-agrees s step (l .reply) (l .after) h p a)
-    (promise-put s step (l .reply) (l .after) g p (a .whole) f) (j .1) (rw c (n .2)) in
+    (promise-put s step (l .reply) (l .after) g p (a .whole) f no-text) (j .1) (rw c (n .2)) in
     record {
       agrees = rest .agrees;
       stand = rest .stand;
@@ -84,7 +87,7 @@ steps-leave t q h g (l ∷ ls) a f j n =
       count = omega (arith, rest .count, step-takes t q (l .scratch) (a .whole .sound) (n .1) (l .reply) (l .after) p);
     }
 
-none-waits : (q : Queue) → q .count ≡ 0 → waiting q ≡ []
+pub none-waits : (q : Queue) → q .count ≡ 0 → waiting q ≡ []
 unfolding waiting packetsFrom
 none-waits q e = rw e
 
@@ -107,20 +110,37 @@ held-reach t q u v h g a b f d c j k (onward {j = n} {i = i} r l e) =
     onward x m (same-points t u n i (new .0 ∙ sym (old .0)) (new .1 ∙ sym (old .1)) e)
 
 module _ (t : List ℕ) (q : Queue) (h : ℕ → Holds) (g : ℕ → Fields) (a : Agrees t q h) (f : FieldsStand t g) where
-  reads-back : ReadsBack t q h g
+  reads-back : ReadsBack t q g
   reads-back s r w after p =
       let y = value-accepted (store t q s) (row r) w after (inl (a .whole .sound)) p in
       row-cases (store t q s) r (λ o. o .reply ≡ value w → RepliesField g r w) (λ n e. subst (RepliesField g r) (same-value 0 w e) (nil-replies r n g))
       (λ n e. subst (RepliesField g r) (same-value (valueOf t r) w e)
       (row-replies t q (sound-facts t q (a .whole .sound)) g f r (row-yes (store t q s) r n (a .whole .arrays) (y .asked)))) (y .reply)
 
-  ends-in-nil : EndsInNil t q h g
+  told : Told t q g
+  told = record { fields-stand = f; reads-back = reads-back }
+
+-- the fields that a table has
+abbrev own : List ℕ → ℕ → Fields
+own t c = fields (wordAt t (pred c) left) (wordAt t (pred c) right)
+
+own-stand : (t : List ℕ) → FieldsStand t (own t)
+own-stand t i l u = let e : i ≡ pred (suc i) = omega arith in (ap (λ (j : ℕ). wordAt t j left) e, ap (λ (j : ℕ). wordAt t j right) e)
+
+module _ (t : List ℕ) (q : Queue) (h : ℕ → Holds) (a : Agrees t q h) where
+  abbrev g : ℕ → Fields
+  g = own t
+
+  f : FieldsStand t g
+  f = own-stand t
+
+  ends-in-nil : EndsInNil t q h
   unfolding moved
   ends-in-nil s r reply after n p =
       let o = only-nil r n (store t q s) (a .whole .sound .shape) reply after p in
       (o .0, o .1, λ i. rw (o .0, nil-moves r n i .0, nil-moves r n i .1) (same-holds (h (suc i))))
 
-  new-is-free : NewIsFree t q h g
+  new-is-free : NewIsFree t q h
   unfolding accepted readsNil valueOf packetOf askFree
   new-is-free s x y w after p =
       let k = value-accepted (store t q s) (row (cons x y)) w after (inl (a .whole .sound)) p in
@@ -131,14 +151,14 @@ module _ (t : List ℕ) (q : Queue) (h : ℕ → Holds) (g : ℕ → Fields) (a 
       (λ u m. (i : ℕ) × (m .c ≡ suc i) × (i < capacity t) × (isFree t i ≡ true))
       (λ new rest d. (new, refl, d .linked .1, not-in-use-free t new (was-free t (waiting q) c new rest d x y))))
 
-  held-by-holds : HeldByHolds t q h g
+  held-by-holds : HeldByHolds t q h
   unfolding heldAtLeast
   held-by-holds i n l =
       let low = waitingChange root minus (suc i) (waiting q) + n in
       let high = wordAt t i rootCount + waitingChange root plus (suc i) (waiting q) in
       (λ e. omega (arith, a .roots i l, leb-true low high e), λ e. le-leb low high (omega (arith, a .roots i l)))
 
-  drains : Drains t q h g
+  drains : Drains t q h
   drains ls j n e = (none, λ i l. (there i l, back i l))
     where
       k : Stepped t q h g ls
@@ -183,23 +203,33 @@ module _ (t : List ℕ) (q : Queue) (h : ℕ → Holds) (g : ℕ → Fields) (a 
       same-number : (m n : ℕ) → refused m ≡ refused n → m ≡ n
       same-number m n e = cc
 
-  full-of-held : FullOfHeld t q h g
+  full-of-held : FullOfHeld t q h
   unfolding cellFree
   full-of-held z s x y after p i l =
       exact-when-done t q h a z i l .0
       (⊎-elim (λ u. u) (λ u. absurd (cells-used s x y (sym (gives-machine (store t q s) (row (cons x y)) (refused 8) after (p .exact (inl (a .whole .sound))) .0))
       (exists-some (capacity t) (isFree t) i l (not-in-use-free t i u)))) (tested (inUse t i)))
 
-  relied : Relied t q h g
+  reads-text : ReadsText t q h
+  unfolding accepted textRead
+  reads-text s bytes w after p =
+      let k = value-accepted (store t q s) (read bytes) w after (inl (a .whole .sound)) p in
+      let b = text-built (store t q s) bytes (a .whole) (k .asked) .1 in
+      rw (k .after) (rw (same-value _ w (k .reply)) at (b .opens), b .stands)
+
+  relied : Relied t q h
   relied = record {
-    fields-stand = f;
-    reads-back = reads-back;
     ends-in-nil = ends-in-nil;
     new-is-free = new-is-free;
     held-by-holds = held-by-holds;
     drains = drains;
     full-of-held = full-of-held;
+    reads-text = reads-text;
   }
 
 pub reliable : Reliable
-reliable t q ls b j = relied (tableAfter t ls) (queueAfter q ls) (holdsAfter ls) (fieldsAfter ls) (covered t q ls b j) (fields-stand t q ls b j)
+reliable t q ls b j =
+    let a = covered t q ls b j in (
+      relied (tableAfter t ls) (queueAfter q ls) (holdsAfter ls) a,
+      λ n. told (tableAfter t ls) (queueAfter q ls) (holdsAfter ls) (fieldsAfter ls) a (fields-stand t q ls b j n),
+    )

@@ -6,15 +6,17 @@ use mathlib.Core.List.{List, _∷_}
 use Prim.Native.Nat.{ℕ, suc, pred, _+_, _≤_, _<_}
 use native.Mathlib.Omega.{arith}
 use borrow.Author.Tests.{leb-true}
+use Rattle.notation.specs.Parse.{parse, meaning}
 use Rattle.machine.specs.declared.Queue.{Queue}
 use Rattle.machine.specs.Range.{matching}
 use Rattle.machine.specs.Table.{left, right, rootCount, capacity, wordAt}
 use Rattle.machine.specs.Queue.{Packet, emptyQueue, appended, taken, waiting}
 use Rattle.machine.specs.Packets.{kindOf, root, plus, minus, changesOf, changes, movedBy, usesOf, uses, waitingChange}
-use Rattle.machine.specs.Calls.{fresh, RowCall, car, cdr, cons, setLeft, setRight, up, down, row, Store, packetOf, readsNil, written, valueOf, freshTable}
+use Rattle.machine.specs.Calls.{fresh, read, RowCall, car, cdr, cons, setLeft, setRight, up, down, row, Store, packetOf, readsNil, written, valueOf, freshTable}
 use Rattle.machine.specs.Step.{applyChanges}
 use Rattle.machine.specs.Questions.{firstNo, askFree, questions}
-use Rattle.machine.specs.Machine.{accepted}
+use Rattle.machine.specs.Texts.{buildBy}
+use Rattle.machine.specs.Machine.{consed, accepted}
 use Rattle.machine.proofs.Table.{word-other}
 use Rattle.machine.proofs.Ring.{arrays-appended, arrays-taken, waiting-appended}
 use Rattle.machine.proofs.Range.{matching-other}
@@ -35,7 +37,7 @@ use Rattle.soundness.proofs.RowSound.{row-sound}
 use Rattle.soundness.proofs.OldestPacket.{applied-capacity, applied-root, applied-facts}
 use Rattle.soundness.proofs.FreedCells.{swept-capacity, swept-root}
 use Rattle.soundness.proofs.StepSound.{stepTable, waiting-rest, step-sound}
-use Rattle.soundness.proofs.CallSound.{fresh-yes, fresh-whole}
+use Rattle.soundness.proofs.CallSound.{fresh-yes, fresh-whole, text-built}
 
 -- a call gives up no more holds than question 6 asks for
 gives-uses : (t : List ℕ) (r : RowCall) (x : ℕ) → gives r x ≤ uses (packetOf t r) x
@@ -157,3 +159,15 @@ step-agrees t q p ps h a e = record {
 
     same : capacity (stepTable t p ps) ≡ capacity t
     same = swept-capacity u ps g ∙ applied-capacity t p ps f
+
+-- a text read gains one hold of its word
+pub read-agrees : (s : Store) (text : List ℕ) (h : ℕ → Holds) → Agrees (s .table) (s .queue) h → firstNo (questions s (read text)) ≡ 0
+    → Agrees (buildBy consed s (meaning (parse text)) .after .table) (buildBy consed s (meaning (parse text)) .after .queue)
+    (λ x. holds (h x .gained + matching (buildBy consed s (meaning (parse text)) .word) x 1) (h x .given))
+read-agrees s text h a e =
+    let b = text-built s text (a .whole) e .1 in
+    record {
+      whole = b .ready .whole;
+      roots = rw (b .stands .sameCapacity) (λ (i : ℕ) (l : i < capacity (s .table)). omega (arith, a .roots i l, b .gains i l));
+      owed = rw (b .stands .sameCapacity) (λ (i : ℕ) (l : i < capacity (s .table)). omega (arith, a .owed i l));
+    }

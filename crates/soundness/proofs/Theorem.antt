@@ -12,11 +12,11 @@ use Rattle.machine.specs.Table.{rootCount, capacity, wordAt, inUse, isFree}
 use Rattle.machine.specs.Queue.{Packet, waiting}
 use Rattle.machine.specs.Packets.{root, plus, minus, isNamed}
 use Rattle.machine.specs.Reached.{isRoot, begun, onward, Reached, ReachedFrom}
-use Rattle.machine.specs.Calls.{Call, fresh, row, step, audit, Reply, value, refused, Store, store}
+use Rattle.machine.specs.Calls.{Call, fresh, row, step, audit, read, write, Reply, value, refused, Store, store}
 use Rattle.machine.specs.Step.{stepWith, stepFrom, stepped}
 use Rattle.machine.specs.Questions.{firstNo, questions}
 use Rattle.machine.specs.Audit.{audited}
-use Rattle.machine.specs.Machine.{accepted, machine}
+use Rattle.machine.specs.Machine.{textRead, accepted, machine}
 use Rattle.machine.specs.Promise.{Promise}
 use Rattle.machine.proofs.Range.{tested, or-true}
 use Rattle.machine.proofs.Kept.{machine-cases, gives-machine}
@@ -28,7 +28,7 @@ use Rattle.soundness.proofs.Facts.{Facts, sound-facts, sound-live}
 use Rattle.soundness.proofs.ReachedCells.{counted-used, pointed-used}
 use Rattle.soundness.proofs.CallSound.{decided, value-accepted}
 use Rattle.soundness.proofs.CodeTests.{pointers-counted}
-use Rattle.soundness.proofs.RootsAreHolds.{Agrees, fresh-agrees, nil-agrees, row-agrees, step-agrees}
+use Rattle.soundness.proofs.RootsAreHolds.{Agrees, fresh-agrees, nil-agrees, row-agrees, step-agrees, read-agrees}
 
 -- the machine's own calls carry the facts on
 refused-agrees : (t : List ℕ) (q : Queue) (h : ℕ → Holds) (call : Call) (n : ℕ) → Agrees t q h → Agrees t q (λ x. moved x call (refused n) (h x))
@@ -37,6 +37,8 @@ refused-agrees t q h (fresh c) n a = a
 refused-agrees t q h (row r) n a = a
 refused-agrees t q h step n a = a
 refused-agrees t q h audit n a = a
+refused-agrees t q h (read text) n a = a
+refused-agrees t q h (write w room) n a = a
 
 stepped-agrees : (s : Store) (h : ℕ → Holds) → Agrees (s .table) (s .queue) h → (ps : List Packet) → waiting (s .queue) ≡ ps
     → Agrees (stepFrom s ps .after .table) (stepFrom s ps .after .queue) h
@@ -46,13 +48,15 @@ stepped-agrees s h a (p ∷ ps) e = step-agrees (s .table) (s .queue) p ps h a e
 
 accepted-agrees : (s : Store) (call : Call) (h : ℕ → Holds) → Agrees (s .table) (s .queue) h → firstNo (questions s call) ≡ 0
     → Agrees (accepted s call .after .table) (accepted s call .after .queue) (λ x. moved x call (accepted s call .reply) (h x))
-unfolding moved accepted stepped audited
+unfolding moved accepted textRead stepped audited
 accepted-agrees s (fresh c) h a e = fresh-agrees s c e
 accepted-agrees s (row r) h a e =
     row-cases s r (λ o. Agrees (o .after .table) (o .after .queue) (λ x. moved x (row r) (o .reply) (h x))) (λ n. nil-agrees (s .table) (s .queue) r h n a)
     (λ n. row-agrees s r h n a e)
 accepted-agrees s step h a e = stepped-agrees s h a (waiting (s .queue)) refl
 accepted-agrees s audit h a e = a
+accepted-agrees s (read text) h a e = read-agrees s text h a e
+accepted-agrees s (write w room) h a e = a
 
 machine-agrees : (s : Store) (call : Call) (h : ℕ → Holds) → Agrees (s .table) (s .queue) h
     → Agrees (machine s call .after .table) (machine s call .after .queue) (λ x. moved x call (machine s call .reply) (h x))

@@ -6,7 +6,7 @@ use lib.ListN.{length}
 use Rattle.machine.specs.Table.{capacity, scratchWords}
 use Rattle.machine.specs.Queue.{Packet, waiting, taken}
 use Rattle.machine.specs.Packets.{changes}
-use Rattle.machine.specs.Calls.{Call, fresh, row, step, audit, applied, Store, store}
+use Rattle.machine.specs.Calls.{Call, fresh, row, step, audit, read, write, applied, Store, store}
 use Rattle.machine.specs.Step.{applyChanges, unreached, swept, cleared, outcome, stepWith, stepFrom, stepped}
 use Rattle.machine.specs.Questions.{firstNo, questions}
 use Rattle.machine.specs.Machine.{accepted, answered, machine}
@@ -26,6 +26,8 @@ module _ (f : List ℕ → Packet → List Packet → List ℕ) (same : (t : Lis
   accepted-alike s (row r) = refl
   accepted-alike s step = step-alike s (waiting (s .queue))
   accepted-alike s audit = refl
+  accepted-alike s (read text) = refl
+  accepted-alike s (write w room) = refl
 
   pub alike : (s : Store) (call : Call) → machineOf (applying f) s call ≡ machine s call
   unfolding machineOf machine answeredOf answered

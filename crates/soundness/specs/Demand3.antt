@@ -12,8 +12,8 @@ use Rattle.machine.specs.Queue.{waiting}
 use Rattle.machine.specs.Packets.{root, cell, plus, minus, waitingChange, isNamed}
 use Rattle.machine.specs.Counts.{pointers}
 use Rattle.machine.specs.Reached.{ReachedFrom}
-use Rattle.machine.specs.Calls.{Call, fresh, row, step, audit, RowCall, car, cdr, cons, setLeft, setRight, up, down}
-use Rattle.machine.specs.Calls.{Reply, value, refused, idle, applied, sound, broken, Store, store}
+use Rattle.machine.specs.Calls.{Call, fresh, row, step, audit, read, write, RowCall, car, cdr, cons, setLeft, setRight, up, down}
+use Rattle.machine.specs.Calls.{Reply, value, refused, idle, applied, sound, broken, text, Store, store}
 use Rattle.machine.specs.Promise.{Promise}
 
 -- A link of the list: any call with its operands and numbers, the scratch lent to it, the reply, and the store after it.
@@ -70,7 +70,8 @@ gives (setRight x y) c = matching y c 1
 gives (up x n) c = 0
 gives (down x n) c = matching x c n
 
--- An accepted fresh sets the holds to 0 for every cell; steps, audits and refused calls move none.
+-- An accepted fresh sets the holds to 0 for every cell. Reading a text gains one hold of the word it replies (document 02, A4). Steps, audits, writing a
+-- text and refused calls move none.
 unfoldable pub moved : ℕ → Call → Reply → Holds → Holds
 moved c (fresh n) (value w) h = holds 0 0
 moved c (fresh n) (refused k) h = h
@@ -78,14 +79,24 @@ moved c (fresh n) idle h = h
 moved c (fresh n) (applied k m) h = h
 moved c (fresh n) sound h = h
 moved c (fresh n) (broken k) h = h
+moved c (fresh n) (text bs) h = h
 moved c (row r) (value w) h = holds (h .gained + gains r w c) (h .given + gives r c)
 moved c (row r) (refused k) h = h
 moved c (row r) idle h = h
 moved c (row r) (applied k m) h = h
 moved c (row r) sound h = h
 moved c (row r) (broken k) h = h
+moved c (row r) (text bs) h = h
 moved c step r h = h
 moved c audit r h = h
+moved c (read bytes) (value w) h = holds (h .gained + matching w c 1) (h .given)
+moved c (read bytes) (refused k) h = h
+moved c (read bytes) idle h = h
+moved c (read bytes) (applied k m) h = h
+moved c (read bytes) sound h = h
+moved c (read bytes) (broken k) h = h
+moved c (read bytes) (text bs) h = h
+moved c (write w room) r h = h
 
 -- Holds are told from the calls and their replies alone.
 pub record Answered : Type 0 where

@@ -4,6 +4,7 @@ pub mod Reliable
 pub mod Untrimmed
 pub mod Links
 pub mod Whole
+pub mod TextRead
 pub mod Variants
 pub mod Shortcuts
 pub mod EitherOrder

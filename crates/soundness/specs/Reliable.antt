@@ -6,14 +6,16 @@ use mathlib.Core.List.{List, [], _∷_}
 use Prim.Native.Nat.{ℕ, suc, _+_, _≤_, _<_}
 use lib.Dec.{eqb}
 use lib.ListN.{length}
+use Rattle.notation.specs.Parse.{parse, meaning}
 use Rattle.machine.specs.declared.Queue.{Queue}
 use Rattle.machine.specs.Words.{isNil}
 use Rattle.machine.specs.Table.{left, right, capacity, scratchWords, wordAt, inUse, isFree}
 use Rattle.machine.specs.Queue.{waiting}
 use Rattle.machine.specs.Counts.{heldAtLeast}
 use Rattle.machine.specs.Reached.{ReachedFrom}
-use Rattle.machine.specs.Calls.{Call, fresh, row, step, audit, RowCall, car, cdr, cons, setLeft, setRight, up, down}
-use Rattle.machine.specs.Calls.{Reply, value, refused, idle, applied, sound, broken, Store, store, readsNil}
+use Rattle.machine.specs.Calls.{Call, fresh, row, step, audit, read, write, RowCall, car, cdr, cons, setLeft, setRight, up, down}
+use Rattle.machine.specs.Calls.{Reply, value, refused, idle, applied, sound, broken, text, Store, store, readsNil}
+use Rattle.machine.specs.Texts.{OpensOut}
 use Rattle.machine.specs.Promise.{Promise}
 use Rattle.soundness.specs.Demand3.{Link, Joined, Begun, tableAfter, queueAfter, Holds, moved, Answered, answers, holdsAfter, Held}
 
@@ -35,7 +37,8 @@ puts (setRight x y) w c f = cond (eqb x c) (fields (f .left) y) f
 puts (up x n) w c f = f
 puts (down x n) w c f = f
 
--- Steps, audits and refused calls put nothing, nor does fresh: after it no cell is in use.
+-- Steps, audits, writing a text and refused calls put nothing, nor does fresh: after it no cell is in use. What a text read puts is not told here: its
+-- reply names its word alone, not the cells below it (see `NoTextRead`).
 unfoldable pub put : ℕ → Call → Reply → Fields → Fields
 put c (fresh n) r f = f
 put c (row k) (value w) f = puts k w c f
@@ -44,8 +47,11 @@ put c (row k) idle f = f
 put c (row k) (applied n m) f = f
 put c (row k) sound f = f
 put c (row k) (broken n) f = f
+put c (row k) (text bs) f = f
 put c step r f = f
 put c audit r f = f
+put c (read bytes) r f = f
+put c (write w room) r f = f
 
 -- Like holds, fields are told from the calls and their replies alone.
 unfoldable pub fieldsFrom : Fields → List Answered → ℕ → Fields
@@ -74,12 +80,29 @@ abbrev pub Steps : ℕ → List Link → Type 0
 Steps n [] = Unit {0}
 Steps n (l ∷ ls) = (l .call ≡ step) × (n ≤ length (l .scratch)) × Steps n ls
 
--- Of a table t and a queue q, where h gives the holds of each cell and f its fields.
-module _ (t : List ℕ) (q : Queue) (h : ℕ → Holds) (f : ℕ → Fields) where
+-- no text is read
+abbrev pub NoTextRead : List Link → Type 0
+NoTextRead [] = Unit {0}
+NoTextRead (l ∷ ls) = ((bytes : List ℕ) → l .call ≡ read bytes → ⊥) × NoTextRead ls
+
+-- Of a table t and a queue q, where f gives the fields of each cell.
+module _ (t : List ℕ) (q : Queue) (f : ℕ → Fields) where
   -- An accepted read or replace replies what was put into the field last, whatever was collected since.
   abbrev pub ReadsBack : Type 0
   ReadsBack = (s : List ℕ) (r : RowCall) (w : ℕ) (after : Store) → Promise (store t q s) (row r) (value w) after → RepliesField f r w
 
+  pub record Told : Type 0 where
+    pub fields-stand : FieldsStand t f
+    pub reads-back : ReadsBack
+
+-- cells in use stay in use, with the fields that they have
+pub record Stands (t u : List ℕ) : Type 0 where
+  pub sameCapacity : capacity u ≡ capacity t
+  pub used : (i : ℕ) → i < capacity t → inUse t i ≡ true → inUse u i ≡ true
+  pub fields : (i k : ℕ) → i < capacity t → k ≤ right → inUse t i ≡ true → wordAt u i k ≡ wordAt t i k
+
+-- Of a table t and a queue q, where h gives the holds of each cell.
+module _ (t : List ℕ) (q : Queue) (h : ℕ → Holds) where
   -- At the end of a list a read of nil replies nil, whatever waits and whatever is held, and leaves the store and every cell's holds as they were.
   abbrev pub EndsInNil : Type 0
   EndsInNil = (s : List ℕ) (r : RowCall) (reply : Reply) (after : Store) → readsNil r ≡ true → Promise (store t q s) (row r) reply after
@@ -105,16 +128,20 @@ module _ (t : List ℕ) (q : Queue) (h : ℕ → Holds) (f : ℕ → Fields) whe
   FullOfHeld = waiting q ≡ [] → (s : List ℕ) (x y : ℕ) (after : Store) → Promise (store t q s) (row (cons x y)) (refused 8) after
       → (i : ℕ) → i < capacity t → (j : ℕ) × Held t q h j × ReachedFrom t j i
 
+  -- The word that an accepted reading replies opens out into the tree that its text means; the cells in use stand.
+  abbrev pub ReadsText : Type 0
+  ReadsText = (s bytes : List ℕ) (w : ℕ) (after : Store) → Promise (store t q s) (read bytes) (value w) after
+      → OpensOut (after .table) w (meaning (parse bytes)) × Stands t (after .table)
+
   pub record Relied : Type 0 where
-    pub fields-stand : FieldsStand t f
-    pub reads-back : ReadsBack
     pub ends-in-nil : EndsInNil
     pub new-is-free : NewIsFree
     pub held-by-holds : HeldByHolds
     pub drains : Drains
     pub full-of-held : FullOfHeld
+    pub reads-text : ReadsText
 
--- After any list of calls from an accepted fresh.
+-- After any list of calls from an accepted fresh; what was put into the fields is told of lists in which no text is read.
 abbrev pub Reliable : Type 0
 Reliable = (t : List ℕ) (q : Queue) (ls : List Link) → Begun ls → Joined t q ls
-    → Relied (tableAfter t ls) (queueAfter q ls) (holdsAfter ls) (fieldsAfter ls)
+    → Relied (tableAfter t ls) (queueAfter q ls) (holdsAfter ls) × (NoTextRead ls → Told (tableAfter t ls) (queueAfter q ls) (fieldsAfter ls))

@@ -12,7 +12,7 @@ use Rattle.machine.specs.Queue.{Packet, waiting}
 use Rattle.machine.specs.Packets.{Direction, plus, minus, Change, changes, uses}
 use Rattle.machine.specs.Counts.{heldAtLeast}
 use Rattle.machine.specs.Reached.{reached}
-use Rattle.machine.specs.Calls.{Call, fresh, row, step, audit, car, cons, setLeft, setRight, up, down, Store, packetOf}
+use Rattle.machine.specs.Calls.{Call, fresh, row, step, audit, read, write, car, cons, setLeft, setRight, up, down, Store, packetOf}
 use Rattle.machine.specs.Step.{counterWord, moveCount, applyChanges, unreached, joinAll, swept}
 use Rattle.machine.specs.Questions.{Question, ask, questions}
 use Rattle.machine.specs.Cases.{unmade}
@@ -93,6 +93,8 @@ asksOneHold s (row r) =
     (questions s (row r))
 asksOneHold s step = questions s step
 asksOneHold s audit = questions s audit
+asksOneHold s (read text) = questions s (read text)
+asksOneHold s (write w room) = questions s (write w room)
 
 abbrev pub oneHoldForBoth : Parts
 oneHoldForBoth = record { asks = asksOneHold; applies = λ t p ps. applyChanges t (changes p); dead = unreached; frees = swept }

@@ -5,7 +5,7 @@ use lib.ListN.{length}
 use Rattle.machine.specs.Table.{capacity, scratchWords}
 use Rattle.machine.specs.Queue.{Packet, taken, waiting}
 use Rattle.machine.specs.Packets.{changes}
-use Rattle.machine.specs.Calls.{Call, fresh, row, step, audit, idle, applied, refused, Store, store}
+use Rattle.machine.specs.Calls.{Call, fresh, row, step, audit, read, write, idle, applied, refused, Store, store}
 use Rattle.machine.specs.Step.{applyChanges, unreached, swept, cleared, Outcome, outcome}
 use Rattle.machine.specs.Questions.{Question, firstNo, questions}
 use Rattle.machine.specs.Machine.{accepted}
@@ -39,6 +39,8 @@ acceptedOf m s (fresh c) = accepted s (fresh c)
 acceptedOf m s (row r) = accepted s (row r)
 acceptedOf m s step = stepOf m s (waiting (s .queue))
 acceptedOf m s audit = accepted s audit
+acceptedOf m s (read text) = accepted s (read text)
+acceptedOf m s (write w room) = accepted s (write w room)
 
 unfoldable pub answeredOf : Parts → ℕ → Store → Call → Outcome
 answeredOf m zero s call = acceptedOf m s call

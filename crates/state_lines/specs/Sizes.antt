@@ -13,6 +13,9 @@ scratchSize = mostCells + 4
 abbrev pub lineNumbers : ℕ
 lineNumbers = 3 + 2 * tableSize
 
+abbrev pub textSize : ℕ
+textSize = 20480
+
 -- the arrays are long enough
 abbrev pub Fits : Store → Type 0
 Fits s = (s .table ≤ tableSize) × (s .scratch ≤ scratchSize)

@@ -7,6 +7,7 @@ use crate::runs::expand;
 use machine::Queue;
 ghost use mathlib.Core.Path.{_≡_};
 ghost use Prim.Native.Nat.{_<_, _≤_};
+ghost use lib.ListN.{length};
 ghost use Rattle.state_lines.specs.Sizes.{Fits};
 
 // The queue, and how many words at the front of two arrays are the table and the scratch.
@@ -16,12 +17,14 @@ pub struct Store {
     pub queue: Queue,
 }
 
-// A call by its letter, C, B or U, its code and its operands.
+// A call by its letter, C, B or U, its code and its operands: of reading a text p is its length, of writing one p, q and r are the word, the room and the
+// byte that the buffer is filled with before.
 pub struct Call {
     pub letter: u8,
     pub code: u16,
     pub p: u16,
     pub q: u16,
+    pub r: u16,
 }
 
 pub fn no_store() -> Store
@@ -82,22 +85,38 @@ pub fn changed(
     }
 }
 
-// The call that a line is; one with fewer numbers is that of code 0 with zeros.
+// The number at a place of a line, 0 where it has fewer.
+fn number_at(line: &[u16], i: usize) -> u16 {
+    if i < line.len() {
+        return line[i];
+    }
+    0
+}
+
+// The call that a line is.
 pub fn call_of(letter: u8, line: &[u16]) -> Call
     ensures { λ r. ⌜ r .letter ≡ letter ⌝ }
 {
-    if line.len() < 4 {
-        return Call {
-            letter,
-            code: 0,
-            p: 0,
-            q: 0,
-        };
-    }
     Call {
         letter,
-        code: line[1],
-        p: line[2],
-        q: line[3],
+        code: number_at(line, 1),
+        p: number_at(line, 2),
+        q: number_at(line, 3),
+        r: number_at(line, 4),
     }
+}
+
+// A text's bytes, behind its length in the line: how many were taken.
+pub fn text_of(line: &[u16], text: &mut [u8]) -> usize
+    ensures { λ r. ⌜ r ≤ length (now (text .exit)) ⌝ }
+{
+    let mut n: usize = 0;
+    while n < text.len() {
+        if line.len() <= n + 3 {
+            return n;
+        }
+        text[n] = (line[n + 3] % 256) as u8;
+        n += 1;
+    }
+    n
 }

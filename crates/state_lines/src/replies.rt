@@ -6,8 +6,10 @@ use crate::output::put_number;
 use crate::output::put_word;
 use crate::queue::put_queue;
 use crate::runs::put_runs;
+use crate::runs::widen;
 use machine::AuditAnswer;
 use machine::FreshAnswer;
+use machine::LengthAnswer;
 use machine::Queue;
 use machine::Refusal;
 use machine::RowAnswer;
@@ -15,6 +17,7 @@ use machine::Rule;
 use machine::StepAnswer;
 ghost use mathlib.Core.Path.{_≡_};
 ghost use Prim.Native.Nat.{_<_, _≤_};
+ghost use lib.ListN.{length};
 ghost use Rattle.machine.specs.Answers.{rowReply, freshReply, stepReply, auditAnswerReply};
 ghost use Rattle.state_lines.specs.Replies.{paperReply};
 
@@ -65,6 +68,14 @@ pub fn audit_reply(answer: AuditAnswer) -> Reply
     }
 }
 
+// Writing a text: the value is its length, in 16 bits as all values of a list.
+pub fn length_reply(answer: LengthAnswer) -> Reply {
+    match answer {
+        LengthAnswer::Length(n) => Reply::Value((n % 65536) as u16),
+        LengthAnswer::Refused(r) => Reply::Refused(r),
+    }
+}
+
 fn put_named(name: &[u8], w: u16) {
     put_name(name);
     put_word(w)
@@ -84,12 +95,23 @@ fn put_reply(reply: Reply) {
     }
 }
 
+// The codes of reading and of writing a text.
+const READ: u16 = 10;
+
+const WRITE: u16 = 11;
+
 fn put_call(call: Call) {
     let letter = [call.letter];
     put_name(&letter);
     put_word(call.code);
     put_word(call.p);
-    put_word(call.q)
+    if call.code == READ {
+        return;
+    }
+    put_word(call.q);
+    if call.code == WRITE {
+        put_word(call.r)
+    }
 }
 
 fn put_store(table: &[u16], queue: Queue, scratch: &[u16]) {
@@ -122,4 +144,20 @@ pub fn write_call(call: Call, reply: Reply, table: &[u16], queue: Queue, scratch
     }
     put_checksum(table, queue, scratch);
     2
+}
+
+fn put_front(words: &[u16], n: usize)
+    requires { ⌜ n ≤ length (now words) ⌝ }
+{
+    put_runs(b"F", &words[..n]);
+    put_name(b"\n")
+}
+
+// The buffer after a writing that is shown, by way of lent words.
+pub fn write_buffer(call: Call, buffer: &[u8], words: &mut [u16]) {
+    if call.letter == b'U' {
+        return;
+    }
+    let n = widen(buffer, words);
+    put_front(words, n)
 }

@@ -80,3 +80,22 @@ pub fn put_runs(name: &[u8], words: &[u16]) {
     put_number(count_runs(words) as u64);
     put_each(words)
 }
+
+fn word_of(b: u8) -> u16 {
+    b as u16
+}
+
+// Bytes as words, as many as there is room for.
+pub fn widen(bytes: &[u8], words: &mut [u16]) -> usize
+    ensures { λ r. ⌜ r ≤ length (now (words .exit)) ⌝ }
+{
+    let mut n: usize = 0;
+    while n < words.len() {
+        if bytes.len() <= n {
+            return n;
+        }
+        words[n] = word_of(bytes[n]);
+        n += 1;
+    }
+    n
+}

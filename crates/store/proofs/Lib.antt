@@ -2,3 +2,5 @@
 pub mod RowTests
 pub mod RowPromise
 pub mod StepPromise
+pub mod TextPromise
+pub mod ReadPromise

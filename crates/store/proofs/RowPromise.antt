@@ -21,7 +21,7 @@ use Rattle.machine.proofs.NilReads.{late-queued}
 use Rattle.machine.proofs.Questions.{AllYes, firstNo-append, firstNo-none, firstNo-number, firstNo-all, early-numbered}
 use Rattle.machine.proofs.Kept.{machine-accepted, machine-refused, kept, bounded-accepted, bounded-same}
 use Rattle.calls.specs.Tests.{freeByEnd, codeLate, codeLateRow, codeQuestions}
-use Rattle.calls.specs.Called.{RowCalled, FreshCalled}
+use Rattle.calls.specs.Called.{outcomeOf, RowCalled, FreshCalled}
 use Rattle.calls.proofs.RowLaws.{nil-late, code-nil, outcome-refused, outcome-done}
 use Rattle.store.proofs.RowTests.{queued-late, questions-same}
 
@@ -40,6 +40,22 @@ numbers-same : (t : List ℕ) (q : Queue) (r : RowCall) → numbers (codeLateRow
 numbers-same t q r =
     ⊎-elim (λ n. ap numbers (nil-late t q r n)) (λ n. ap numbers (queued-late t q r n) ∙ queued-numbers t q r ∙ sym (ap numbers (late-queued t q r n)))
     (tested (readsNil r))
+
+-- a row call of the code touches nothing but cells, on any store
+pub outcome-bounded : (t : List ℕ) (q : Queue) (r : RowCall) → Untouched (store t q []) (outcomeOf t q r .after)
+unfolding codeQuestions
+outcome-bounded t q r = go (firstNo (codeQuestions t q r)) refl
+  where
+    s : Store
+    s = store t q []
+
+    yes : firstNo (codeQuestions t q r) ≡ 0 → (m : ℕ) → firstNo (early s (row r)) ≡ m → AllYes (early s (row r))
+    yes d zero e = firstNo-all (early s (row r)) (early-numbered s (row r)) e
+    yes d (suc m) e = absurd (omega (arith, firstNo-append (early s (row r)) (codeLateRow t q r) m e))
+
+    go : (n : ℕ) → firstNo (codeQuestions t q r) ≡ n → Untouched s (outcomeOf t q r .after)
+    go zero d = rw (outcome-done t q r d) (bounded-accepted s (row r) (yes d (firstNo (early s (row r))) refl))
+    go (suc n) d = rw (outcome-refused t q r n d) (bounded-same s (row r))
 
 module _ (t : List ℕ) (q : Queue) (r : RowCall) (a : RowAnswer) (t′ : List ℕ) (q′ : Queue) (h : RowCalled t q r a t′ q′) where
   abbrev s : Store
@@ -100,16 +116,16 @@ module _ (t : List ℕ) (q : Queue) (r : RowCall) (a : RowAnswer) (t′ : List �
       go (suc n) d = rw (machine-refused s (row r) n (e ∙ d)) (refused-whole n d)
 
   row-bounded : Untouched s s′
-  unfolding codeQuestions
-  row-bounded = go (firstNo (codeQuestions t q r)) refl
+  row-bounded = rw (h .table, h .queue) (scratch-less (outcomeOf t q r .after) (outcome-bounded t q r))
     where
-      yes : firstNo (codeQuestions t q r) ≡ 0 → (m : ℕ) → firstNo (early s (row r)) ≡ m → AllYes (early s (row r))
-      yes d zero e = firstNo-all (early s (row r)) (early-numbered s (row r)) e
-      yes d (suc m) e = absurd (omega (arith, firstNo-append (early s (row r)) (codeLateRow t q r) m e))
-
-      go : (n : ℕ) → firstNo (codeQuestions t q r) ≡ n → Untouched s s′
-      go zero d = rw (done-whole d .1) (bounded-accepted s (row r) (yes d (firstNo (early s (row r))) refl))
-      go (suc n) d = rw (refused-whole n d .1) (bounded-same s (row r))
+      scratch-less : (u : Store) → Untouched s u → Untouched s (store (u .table) (u .queue) [])
+      scratch-less u k = record {
+        sameLength = k .sameLength;
+        sameCapacity = k .sameCapacity;
+        pastCells = k .pastCells;
+        scratchLength = refl;
+        pastScratch = refl;
+      }
 
   pub row-promise : Arrays q → Promise s (row r) (rowReply a) s′
   row-promise arrays = record {

@@ -2,51 +2,22 @@
 use mathlib.Core.Path.{_≡_, refl, sym, ap, _∙_}
 use mathlib.Core.Bool.{Bool, true, false, cond, _&&_}
 use mathlib.Core.List.{List, [], _∷_}
-use Prim.Native.Nat.{ℕ, zero, suc, _+_, _-_, _*_, _^_, _≤_, _<_, zero-le}
+use Prim.Native.Nat.{ℕ, suc, _+_, _-_, _*_, _^_, _≤_, _<_, zero-le}
 use native.Mathlib.Omega.{arith}
 use lib.Dec.{leb, ltb, eqb}
 use lib.ListN.{length, take}
 use lib.Seq.{take-all, length-take-le}
-use borrow.Author.Tests.{ne-eqb, eqb-true, eqb-false, leb-true, leb-false, ltb-true, ltb-false, lt-leb}
-use Rattle.line_text.specs.declared.Number
-use Rattle.line_text.specs.declared.Number.{Number}
-use Rattle.line_text.specs.Bytes.{digitZero, digitNine, lineFeed, space, onFirst, split, linesOf, wordsOf}
-use Rattle.line_text.specs.Numbers.{isDigit, numberFrom, zeroAlone, numberOf}
+use borrow.Author.Tests.{eqb-false, leb-true, leb-false, ltb-true, ltb-false}
+use Rattle.base_ten.specs.declared.Number
+use Rattle.base_ten.specs.declared.Number.{Number}
+use Rattle.base_ten.specs.Bytes.{digitZero, digitNine, lineFeed, space, onFirst, split, linesOf, wordsOf}
+use Rattle.base_ten.specs.Numbers.{numberFrom, zeroAlone, numberOf}
+use Rattle.base_ten.proofs.NumberLaws.{grown, grown-larger, grown-longer, number-high}
 use Rattle.line_text.specs.Requests.{mostBytes}
 use Rattle.line_text.specs.Kept.{keptBytes}
 use Rattle.traffic.specs.declared.Workload
 use Rattle.traffic.specs.declared.Workload.{Workload}
 use Rattle.traffic.specs.Workload.{mostSeed, mostCount, ifAll, byWords, byLines, workloadOf}
-
--- v with so many zeros behind it
-abbrev grown : ℕ → ℕ → ℕ
-grown zero v = v
-grown (suc k) v = grown k (10 * v)
-
-grown-larger : (k v w : ℕ) → v ≤ w → grown k v ≤ grown k w
-grown-larger zero v w h = h
-grown-larger (suc k) v w h = grown-larger k (10 * v) (10 * w) (omega arith)
-
-grown-longer : (k m v : ℕ) → k ≤ m → grown k v ≤ grown m v
-grown-longer zero zero v h = omega arith
-grown-longer zero (suc m) v h = omega (arith, grown-longer zero m (10 * v) zero-le)
-grown-longer (suc k) zero v h = absurd (never h)
-  where
-    never : suc k ≤ 0 → ⊥
-    never p = omega arith
-grown-longer (suc k) (suc m) v h = grown-longer k m (10 * v) (omega arith)
-
--- more digits make a number no smaller
-number-high : (most v : ℕ) (ds : List ℕ) → most < grown (length ds) v → numberFrom most v ds ≡ Number.Nothing
-unfolding numberFrom
-number-high most v [] h = rw (lt-leb v most h)
-number-high most v (d ∷ ds) h =
-    rw (number-high most (10 * v + (d - digitZero)) ds (omega (arith, grown-larger (length ds) (10 * v) (10 * v + (d - digitZero)) (omega arith))))
-    (either (isDigit d))
-  where
-    either : (b : Bool) → cond b Number.Nothing Number.Nothing ≡ Number.Nothing
-    either true = refl
-    either false = refl
 
 -- more than ten digits without leading zeros are a number of 10,000,000,000 or more
 abbrev longest : ℕ

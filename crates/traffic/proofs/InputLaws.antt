@@ -9,11 +9,11 @@ use lib.Dec.{leb, eqb}
 use lib.ListN.{length, take, drop, length-drop, drop-of-length-le}
 use lib.Seq.{take-all}
 use borrow.Author.Tests.{eqb-true, eqb-false}
-use Rattle.line_text.specs.declared.Number
-use Rattle.line_text.specs.declared.Number.{Number}
-use Rattle.line_text.specs.Bytes.{lineFeed, space, before, onFirst, split, linesOf, wordsOf}
-use Rattle.line_text.specs.Numbers.{numberOf}
-use Rattle.line_text.proofs.WordLaws.{split-at}
+use Rattle.base_ten.specs.declared.Number
+use Rattle.base_ten.specs.declared.Number.{Number}
+use Rattle.base_ten.specs.Bytes.{lineFeed, space, before, onFirst, split, linesOf, wordsOf}
+use Rattle.base_ten.specs.Numbers.{numberOf}
+use Rattle.base_ten.proofs.WordLaws.{split-at}
 use Rattle.line_text.proofs.RequestLaws.{words-one, words-more, some-word, last-part}
 use Rattle.traffic.specs.declared.Workload
 use Rattle.traffic.specs.declared.Workload.{Workload}

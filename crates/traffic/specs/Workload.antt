@@ -2,10 +2,10 @@
 -- leading zeros and with one space between"; "the input's line feed may lack".
 use mathlib.Core.List.{List, [], _∷_}
 use Prim.Native.Nat.{ℕ}
-use Rattle.line_text.specs.declared.Number
-use Rattle.line_text.specs.declared.Number.{Number}
-use Rattle.line_text.specs.Bytes.{linesOf, wordsOf}
-use Rattle.line_text.specs.Numbers.{numberOf}
+use Rattle.base_ten.specs.declared.Number
+use Rattle.base_ten.specs.declared.Number.{Number}
+use Rattle.base_ten.specs.Bytes.{linesOf, wordsOf}
+use Rattle.base_ten.specs.Numbers.{numberOf}
 use Rattle.traffic.specs.declared.Workload
 use Rattle.traffic.specs.declared.Workload.{Workload}
 

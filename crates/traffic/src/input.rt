@@ -1,11 +1,11 @@
 // From an input's bytes to the workload.
 use crate::Workload;
-use line_text::Number;
-use line_text::bytes::find;
-use line_text::numbers::number;
+use base_ten::Number;
+use base_ten::bytes::find;
+use base_ten::numbers::number;
 ghost use mathlib.Core.Path.{_≡_};
 ghost use mathlib.Core.List.{[], _∷_};
-ghost use Rattle.line_text.specs.Bytes.{wordsOf};
+ghost use Rattle.base_ten.specs.Bytes.{wordsOf};
 ghost use Rattle.traffic.specs.Workload.{byWords, workloadOf};
 
 // The largest seed.

@@ -6,6 +6,7 @@ use crate::call::{Call, Reply};
 use crate::queue::Queue;
 use crate::store::Store;
 use crate::table::*;
+use crate::text_call::{TextCall, TextReply};
 
 pub struct Follower {
     pub store: Store,
@@ -79,6 +80,15 @@ impl Follower {
         let reply = call.perform(&mut self.store);
         if let Reply::Done(value) = reply {
             self.note(call, value);
+        }
+        reply
+    }
+
+    /// A text read gains one hold of its word; writing moves none.
+    pub fn perform_text(&mut self, call: &TextCall) -> TextReply {
+        let reply = call.perform(&mut self.store);
+        if let (TextCall::Read(_), Ok(word)) = (call, reply.value) {
+            self.gain(word as u16, 1);
         }
         reply
     }

@@ -3,9 +3,10 @@
 use std::io::{self, Write};
 
 use crate::call::Call;
-use crate::format::{write_call, write_store};
+use crate::format::{write_call, write_store, write_text_call};
 use crate::store::Store;
 use crate::table::at;
+use crate::text_call::TextCall;
 
 pub struct List<'a> {
     pub output: &'a mut dyn Write,
@@ -28,6 +29,11 @@ impl List<'_> {
     /// A call after which a checksum is written.
     pub fn brief(&mut self, call: Call) -> io::Result<()> {
         write_call(&mut self.output, call, true)
+    }
+
+    /// A text call, brief or not.
+    pub fn text(&mut self, call: &TextCall, brief: bool) -> io::Result<()> {
+        write_text_call(&mut self.output, call, brief)
     }
 
     /// Audits a store and tries the questions that are answered on any store

@@ -13,12 +13,14 @@ pub mod rng;
 pub mod rows;
 pub mod session;
 pub mod sound;
+pub mod texts;
 
 use list::List;
 use rng::Rng;
 
 const USAGE: &str = "usage: reference generate SEED session STYLE CELLS LINES\n\
-                     or:    reference generate SEED states LIST [CASES]";
+                     or:    reference generate SEED states LIST [CASES]\n\
+                     or:    reference generate SEED rules LINES";
 
 pub fn run(arguments: &[&str], mut output: impl Write) -> io::Result<()> {
     let [seed, rest @ ..] = arguments else {
@@ -31,6 +33,7 @@ pub fn run(arguments: &[&str], mut output: impl Write) -> io::Result<()> {
             let lines = number(lines)? as usize;
             session::write(&mut rng, style, cells, lines, &mut output)?;
         }
+        ["rules", lines] => texts::rules(&mut rng, number(lines)? as usize, &mut output)?,
         ["states", name] => write_list(&mut rng, name, 50, &mut output)?,
         ["states", name, cases] => {
             let cases = number(cases)? as usize;
@@ -41,7 +44,7 @@ pub fn run(arguments: &[&str], mut output: impl Write) -> io::Result<()> {
     output.flush()
 }
 
-pub const LISTS: [&str; 19] = [
+pub const LISTS: [&str; 30] = [
     "s1",
     "s2",
     "s3",
@@ -61,6 +64,17 @@ pub const LISTS: [&str; 19] = [
     "ceilings",
     "rings",
     "wrecks",
+    "text-short",
+    "text-bytes",
+    "text-random",
+    "text-borders",
+    "text-deep",
+    "text-queues",
+    "text-free",
+    "text-mixed",
+    "text-back",
+    "text-shapes",
+    "text-damaged",
 ];
 
 /// One list; `cases` matters only to those of random cases.
@@ -91,6 +105,17 @@ pub fn write_list(
         "ceilings" => rows::ceilings(rng, list),
         "rings" => rings::rings(list),
         "wrecks" => damaged::wrecks(rng, list, cases),
+        "text-short" => texts::short(rng, list),
+        "text-bytes" => texts::bytes(rng, list),
+        "text-random" => texts::texts(rng, list, cases),
+        "text-borders" => texts::borders(rng, list),
+        "text-deep" => texts::deep(list),
+        "text-queues" => texts::queues(rng, list),
+        "text-free" => texts::free(rng, list),
+        "text-mixed" => texts::mixed(rng, list, cases),
+        "text-back" => texts::back(rng, list, cases),
+        "text-shapes" => texts::shapes(rng, list, cases),
+        "text-damaged" => texts::damaged(rng, list, cases),
         _ => Err(usage("no such list")),
     }
 }

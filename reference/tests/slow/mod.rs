@@ -3,6 +3,8 @@
 //! Nothing here uses the fast code but its types.
 #![allow(dead_code)]
 
+pub mod text;
+
 use std::collections::{BTreeMap, BTreeSet};
 
 use reference::audit::Rule;
@@ -281,7 +283,7 @@ pub fn perform(store: &mut Store, call: Call) -> Reply {
     }
 }
 
-fn refusal(number: u8) -> Refusal {
+pub fn refusal(number: u8) -> Refusal {
     [
         Refusal::Store,
         Refusal::Scratch,
@@ -293,6 +295,9 @@ fn refusal(number: u8) -> Refusal {
         Refusal::NoFreeCell,
         Refusal::HeldCount,
         Refusal::Pointers,
+        Refusal::Outside,
+        Refusal::Deep,
+        Refusal::Buffer,
     ][number as usize - 1]
 }
 
@@ -675,6 +680,11 @@ impl Holds {
         if (1..=self.cells).contains(&word) {
             *self.holds.entry(word).or_insert(0) += amount;
         }
+    }
+
+    /// A text read gains one hold of the word it replies (A4).
+    pub fn note_read(&mut self, word: u16) {
+        self.change(word, 1);
     }
 
     pub fn note(&mut self, call: Call, reply: Reply) {

@@ -1,5 +1,5 @@
 use borrow.Author.Needs.{needs}
-use Rattle.line_text.proofs.PutLaws.{put-none}
+use Rattle.base_ten.proofs.PutLaws.{put-none}
 use Rattle.call_text.specs.CallText.{callText}
 use Rattle.call_text.proofs.put_call.Statement.{statement}
 use Rattle.call_text.proofs.put_call.Tie as tie

@@ -1,6 +1,6 @@
 use native.Mathlib.Omega.{arith}
 use borrow.Author.Needs.{needs}
-use Rattle.line_text.proofs.PutLaws.{put-both}
+use Rattle.base_ten.proofs.PutLaws.{put-both}
 use Rattle.call_text.specs.CallText.{callLine}
 use Rattle.call_text.proofs.TextLaws.{call-length}
 use Rattle.call_text.proofs.put_call_line.Statement.{statement}

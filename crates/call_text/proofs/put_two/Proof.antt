@@ -1,8 +1,8 @@
 use native.Mathlib.Omega.{arith}
 use lib.ListN.{length-append}
 use borrow.Author.Needs.{needs}
-use Rattle.line_text.specs.Texts.{mostDigits, decimal}
-use Rattle.line_text.proofs.PutLaws.{put-both, digits-length}
+use Rattle.base_ten.specs.Decimal.{mostDigits, decimal}
+use Rattle.base_ten.proofs.PutLaws.{put-both, digits-length}
 use Rattle.call_text.proofs.put_two.Statement.{statement}
 use Rattle.call_text.proofs.put_two.Tie as tie
 

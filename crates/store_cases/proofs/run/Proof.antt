@@ -1,17 +1,16 @@
-use mathlib.Core.Path.{_≡_, sym}
+use mathlib.Core.Path.{_≡_}
 use Prim.Native.Nat.{_-_, _≤_}
-use lib.Seq.{length-take-le}
 use lib.ListN.{length}
 use borrow.Author.Needs.{needs}
-use Rattle.state_lines.specs.Sizes.{Fits, lineNumbers}
+use Rattle.state_lines.specs.Sizes.{Fits, lineNumbers, textSize}
 use Rattle.store_cases.proofs.run.Statement.{statement}
 use Rattle.store_cases.proofs.run.Tie as tie
 
 abbrev Inv-loop : tie.InvT-loop
-Inv-loop input line₀ table₀ scratch₀ store₀ at₀ line table scratch store at = (at ≤ length input) × Fits store × (length line ≡ lineNumbers)
+Inv-loop input line₀ table₀ scratch₀ text₀ store₀ at₀ line table scratch text store at = (at ≤ length input) × Fits store × (length line ≡ lineNumbers) × (length text ≡ textSize)
 
 abbrev μ-loop : tie.MeasureT-loop
-μ-loop input line₀ table₀ scratch₀ store₀ at₀ line table scratch store at = length input - at
+μ-loop input line₀ table₀ scratch₀ text₀ store₀ at₀ line table scratch text store at = length input - at
 
 line-array-requires : tie.Need-line-array-requires Inv-loop μ-loop
 line-array-requires c κs = search needs
@@ -21,6 +20,9 @@ table-array-requires c κs = search needs
 
 scratch-array-requires : tie.Need-scratch-array-requires Inv-loop μ-loop
 scratch-array-requires c κs = search needs
+
+text-array-requires : tie.Need-text-array-requires Inv-loop μ-loop
+text-array-requires c κs = search needs
 
 no-store-requires : tie.Need-no-store-requires Inv-loop μ-loop
 no-store-requires c κs = search needs
@@ -34,11 +36,11 @@ slice-aggregate-read-line c = search needs
 read-line-requires : tie.Need-read-line-requires Inv-loop μ-loop
 read-line-requires c κs = search needs
 
-array-share-prefix-line : tie.Need-array-share-prefix-line Inv-loop μ-loop
-array-share-prefix-line c = search needs
-
 slice-aggregate-take-line : tie.Need-slice-aggregate-take-line Inv-loop μ-loop
-slice-aggregate-take-line c = sym (length-take-le _ _ (search needs))
+slice-aggregate-take-line c = search needs
+
+slice-aggregate-take-line-2 : tie.Need-slice-aggregate-take-line-2 Inv-loop μ-loop
+slice-aggregate-take-line-2 c = search needs
 
 take-line-requires : tie.Need-take-line-requires Inv-loop μ-loop
 take-line-requires c κs = search needs
@@ -61,12 +63,13 @@ run-spec =
     line-array-requires
     table-array-requires
     scratch-array-requires
+    text-array-requires
     no-store-requires
     loop-holds
     slice-aggregate-read-line
     read-line-requires
-    array-share-prefix-line
     slice-aggregate-take-line
+    slice-aggregate-take-line-2
     take-line-requires
     loop-less
     loop-again

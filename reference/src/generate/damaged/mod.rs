@@ -10,7 +10,7 @@ mod reached;
 
 pub use cells::s1;
 pub use free_chain::s2;
-pub use mutants::{mutants, wrecks};
+pub use mutants::{mutant, mutants, wrecks};
 pub use packets::s3;
 pub use pointers::s4;
 pub use reached::s5;

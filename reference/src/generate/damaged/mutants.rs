@@ -27,7 +27,8 @@ pub fn mutants(rng: &mut Rng, list: &mut List, cases: usize) -> io::Result<()> {
     Ok(())
 }
 
-fn mutant(rng: &mut Rng, cells: u16) -> Store {
+/// A sound store with one or two words changed.
+pub fn mutant(rng: &mut Rng, cells: u16) -> Store {
     let calls = rng.below(120);
     let mut store = sound::random_store(rng, cells, calls).store;
     for word in &mut store.scratch {

@@ -4,9 +4,9 @@ use Prim.Native.Nat.{_+_, _-_, _≤_}
 use native.Mathlib.Omega.{arith}
 use lib.ListN.{length, take, length-set}
 use borrow.Author.Needs.{needs}
+use Rattle.base_ten.proofs.PutLaws.{word-none}
 use Rattle.line_text.specs.Kept.{keptBytes}
 use Rattle.line_text.proofs.KeepLaws.{kept-more, kept-full, kept-all}
-use Rattle.line_text.proofs.PutLaws.{word-none}
 use Rattle.line_text.proofs.kept.keep.Statement.{statement}
 use Rattle.line_text.proofs.kept.keep.Tie as tie
 

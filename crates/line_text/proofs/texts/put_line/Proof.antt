@@ -1,8 +1,10 @@
 use mathlib.Core.Path.{_∙_}
 use native.Mathlib.Omega.{arith}
 use borrow.Author.Needs.{needs}
-use Rattle.line_text.specs.Texts.{mostDigits, verdictRoom, outputLine}
-use Rattle.line_text.proofs.PutLaws.{put-both, put-within, digits-length, verdict-length}
+use Rattle.base_ten.specs.Decimal.{mostDigits}
+use Rattle.base_ten.proofs.PutLaws.{put-both, put-within, digits-length}
+use Rattle.line_text.specs.Texts.{verdictRoom, outputLine}
+use Rattle.line_text.proofs.PutLaws.{verdict-length}
 use Rattle.line_text.proofs.texts.put_line.Statement.{statement}
 use Rattle.line_text.proofs.texts.put_line.Tie as tie
 

@@ -4,8 +4,9 @@ use Prim.Native.Nat.{_+_, _-_, _≤_}
 use native.Mathlib.Omega.{arith}
 use lib.ListN.{length, take, length-set}
 use borrow.Author.Needs.{needs}
-use Rattle.line_text.specs.Texts.{mostDigits}
-use Rattle.line_text.proofs.PutLaws.{word-none, word-step, shows-some, shows-most, number-put}
+use Rattle.base_ten.specs.Decimal.{mostDigits}
+use Rattle.base_ten.proofs.PutLaws.{word-none, word-step}
+use Rattle.line_text.proofs.PutLaws.{shows-some, shows-most, number-put}
 use Rattle.line_text.proofs.texts.put_number.Statement.{statement}
 use Rattle.line_text.proofs.texts.put_number.Tie as tie
 

@@ -5,8 +5,8 @@ use Prim.Native.Nat.{_+_, _-_, _≤_, _<_}
 use native.Mathlib.Omega.{arith}
 use lib.ListN.{length}
 use borrow.Author.Needs.{needs}
+use Rattle.base_ten.proofs.PutLaws.{put-both, put-within}
 use Rattle.line_text.specs.Put.{ShowsTens}
-use Rattle.line_text.proofs.PutLaws.{put-both, put-within}
 use Rattle.call_text.specs.CallText.{lineRoom}
 use Rattle.call_text.proofs.TextLaws.{line-length}
 use Rattle.serving.proofs.ServeLaws.{Answers, answers, fresh-serves, row-serves, step-serves, bad-serves}

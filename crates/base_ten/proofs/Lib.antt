@@ -1,0 +1,7 @@
+pub mod ByteLaws
+pub mod WordLaws
+pub mod NumberLaws
+pub mod PutLaws
+pub mod DecimalRead
+pub mod LineLaws
+pub mod KeepLaws

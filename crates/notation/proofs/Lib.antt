@@ -1,0 +1,9 @@
+pub mod Tall
+pub mod MarkLaws
+pub mod FrameLaws
+pub mod PrintLaws
+pub mod ValueLaws
+pub mod DepthLaws
+pub mod Theorems
+pub mod Cases
+pub mod BracketLaws

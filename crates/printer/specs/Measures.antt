@@ -1,0 +1,39 @@
+-- What measuring a text gives: its bytes where it fits, else what is met first.
+use mathlib.Core.Path.{_≡_}
+use mathlib.Core.Bool.{cond}
+use mathlib.Core.List.{List, [], _++_}
+use Prim.Native.Nat.{ℕ, _<_}
+use lib.Dec.{eqb}
+use lib.ListN.{length, drop}
+use Rattle.notation.specs.Brackets.{firstMet}
+use Rattle.machine.specs.Texts.{textFor}
+use Rattle.printer.specs.declared.Measured
+use Rattle.printer.specs.declared.Measured.{Measured}
+
+-- by the refusal's number, 12 or 13
+unfoldable pub measuredBy : ℕ → List ℕ → Measured
+measuredBy met text = cond (eqb met 0) (Measured.Bytes (length text)) (cond (eqb met 12) Measured.TooDeep Measured.NoRoom)
+
+abbrev pub measured : ℕ → List ℕ → Measured
+measured room text = measuredBy (firstMet room 0 text) text
+
+-- the text fits, and is just as long as the room
+pub record Exact (room : ℕ) (t : List ℕ) (w : ℕ) : Type 0 where
+  pub met : firstMet room 0 (textFor room t w) ≡ 0
+  pub size : length (textFor room t w) ≡ room
+
+-- a buffer with the text at its front, by what was measured: what stands behind the text stands, and all of it where the text does not fit
+abbrev pub front : Measured → List ℕ → List ℕ → List ℕ
+front (Measured.Bytes n) text old = text ++ drop n old
+front Measured.TooDeep text old = old
+front Measured.NoRoom text old = old
+
+pub record PutText (t : List ℕ) (w : ℕ) (old new : List ℕ) (answer : Measured) : Type 0 where
+  pub exact : answer ≡ measured (length old) (textFor (length old) t w)
+  pub put : new ≡ front answer (textFor (length old) t w) old
+
+-- the part that is handed back of a buffer with so much room: the text where it fits, else empty, which no text is
+pub record Into (room : ℕ) (t : List ℕ) (w : ℕ) (part : List ℕ) : Type 0 where
+  pub fits : firstMet room 0 (textFor room t w) ≡ 0 → part ≡ textFor room t w
+  pub not : (firstMet room 0 (textFor room t w) ≡ 0 → ⊥) → part ≡ []
+  pub some : 0 < length (textFor room t w)

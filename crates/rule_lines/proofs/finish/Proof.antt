@@ -1,0 +1,45 @@
+use native.Mathlib.Omega.{arith}
+use Rattle.rule_lines.proofs.FeedLaws.{finish-none, finish-line}
+use borrow.Author.Needs.{needs}
+use Rattle.rule_lines.proofs.finish.Statement.{statement}
+use Rattle.rule_lines.proofs.finish.Tie as tie
+
+returns : tie.Need-returns
+returns c = finish-none _ _ (c .if1 .taken)
+
+slice-aggregate-answer-held : tie.Need-slice-aggregate-answer-held
+slice-aggregate-answer-held c = search needs
+
+answer-held-requires : tie.Need-answer-held-requires
+answer-held-requires c κs = search needs
+
+same-length : tie.Need-same-length
+same-length c = c .before .before .before .before .before .before .before .before .answer-held .kept .0
+
+same-length-2 : tie.Need-same-length-2
+same-length-2 c = c .before .before .before .before .before .before .before .before .answer-held .kept .1 .1 .0
+
+same-length-3 : tie.Need-same-length-3
+same-length-3 c = c .before .before .before .before .before .before .before .before .answer-held .kept .1 .1 .1 .0
+
+same-length-4 : tie.Need-same-length-4
+same-length-4 c = c .before .before .before .before .before .before .before .before .answer-held .kept .1 .1 .1 .1 .1 .1 .0
+
+returns-2 : tie.Need-returns-2
+returns-2 c =
+    let k = c .before .before .before .before .before .before .before .before .answer-held in
+    let start = c .before .before .before .before .before .before .before .before .before .before .before .before .before .before .before .before .before .before .before .before in
+    finish-line _ (c .before .before .before .before .before .before .before .before .before .before .before .before .before .before .before .if1 .left) (omega (arith, start .pre, k .kept .1 .1 .1 .1 .1 .1 .0)) (k .ensures)
+
+pub finish-spec : {M : Type 1} → statement M
+finish-spec =
+    tie.close
+    (tie.spec
+    returns
+    slice-aggregate-answer-held
+    answer-held-requires
+    same-length
+    same-length-2
+    same-length-3
+    same-length-4
+    returns-2)

@@ -1,0 +1,111 @@
+use mathlib.Core.List.{_++_}
+use mathlib.Core.Path.{_≡_, refl}
+use Prim.Native.Nat.{_+_, _-_, _≤_}
+use native.Mathlib.Omega.{arith}
+use lib.ListN.{length, take, length-set}
+use borrow.Author.Needs.{needs}
+use Rattle.base_ten.proofs.KeepLaws.{kept-more, kept-full, kept-all}
+use Rattle.base_ten.proofs.PutLaws.{word-none}
+use Rattle.rule_lines.proofs.kept.keep.Statement.{statement}
+use Rattle.rule_lines.proofs.kept.keep.Tie as tie
+
+abbrev Inv-loop : tie.InvT-loop
+Inv-loop line₀ held part most n₀ i₀ line n i =
+    (i ≤ length part)
+    × (n ≡ n₀ + i)
+    × (n₀ + i ≤ length line₀)
+    × (length line ≡ length line₀)
+    × (take (n₀ + i) line ≡ take n₀ line₀ ++ take i part)
+
+abbrev μ-loop : tie.MeasureT-loop
+μ-loop line₀ held part most n₀ i₀ line n i = length part - i
+
+capped-requires : tie.Need-capped-requires Inv-loop μ-loop
+capped-requires c κs = search needs
+
+loop-holds : tie.Need-loop-holds Inv-loop μ-loop
+loop-holds c =
+    let a = c .before .before .before .args in
+    (omega arith, omega arith, omega (arith, c .capped .ensures), refl, word-none (a .line .now) (a .part .now) (c .capped .result))
+
+same-length : tie.Need-same-length Inv-loop μ-loop
+same-length c = c .before .before .loop .inv .3
+
+returns : tie.Need-returns Inv-loop μ-loop
+returns c =
+    let at-loop = c .before .before in
+    let at-capped = at-loop .before in
+    let a = at-capped .before .before .before .args in
+    let l = at-loop .loop in
+    record {
+      most = omega arith;
+      size = l .inv .3;
+      front =
+          kept-full (length (a .line .now)) (a .line .now) (l .line) (a .part .now) (a .held) (l .i) (at-capped .capped .ensures) refl
+          (l .inv .1) (omega arith) (l .inv .4) (omega arith);
+    }
+
+shared-slice-read-line : tie.Need-shared-slice-read-line Inv-loop μ-loop
+shared-slice-read-line c = search needs
+
+slice-write-line : tie.Need-slice-write-line Inv-loop μ-loop
+slice-write-line c = search needs
+
+add-n : tie.Need-add-n Inv-loop μ-loop
+add-n c = search needs
+
+add-i : tie.Need-add-i Inv-loop μ-loop
+add-i c = search needs
+
+loop-less : tie.Need-loop-less Inv-loop μ-loop
+loop-less c = search needs
+
+loop-again : tie.Need-loop-again Inv-loop μ-loop
+loop-again c =
+    let at-loop = c .before .before .before in
+    let at-capped = at-loop .before in
+    let a = at-capped .before .before .before .args in
+    let l = at-loop .loop in (
+      omega arith,
+      omega arith,
+      omega arith,
+      simp length-set (l .inv .3),
+      kept-more (a .line .now) (l .line) (a .part .now) (at-capped .capped .result) (l .i)
+          (l .inv .1) (omega arith) (omega (arith, l .inv .3)) (l .inv .4),
+    )
+
+same-length-2 : tie.Need-same-length-2 Inv-loop μ-loop
+same-length-2 c = c .before .loop .inv .3
+
+returns-2 : tie.Need-returns-2 Inv-loop μ-loop
+returns-2 c =
+    let at-loop = c .before in
+    let at-capped = at-loop .before in
+    let a = at-capped .before .before .before .args in
+    let l = at-loop .loop in
+    record {
+      most = omega arith;
+      size = l .inv .3;
+      front =
+          kept-all (length (a .line .now)) (a .line .now) (l .line) (a .part .now) (a .held) (l .i) (at-capped .capped .ensures) refl
+          (l .inv .1) (omega arith) (l .inv .4) (omega arith);
+    }
+
+pub keep-spec : {M : Type 1} → statement M
+keep-spec =
+    tie.close
+    (tie.spec
+    Inv-loop
+    μ-loop
+    capped-requires
+    loop-holds
+    same-length
+    returns
+    shared-slice-read-line
+    slice-write-line
+    add-n
+    add-i
+    loop-less
+    loop-again
+    same-length-2
+    returns-2)

@@ -1,0 +1,28 @@
+use Rattle.base_ten.proofs.KeepLaws.{last-part}
+use borrow.Author.Needs.{needs}
+use Rattle.rule_lines.proofs.next_feed.Statement.{statement}
+use Rattle.rule_lines.proofs.next_feed.Tie as tie
+
+sub-find : tie.Need-sub-find
+sub-find c = search needs
+
+part-find-start : tie.Need-part-find-start
+part-find-start c = search needs
+
+part-find-end : tie.Need-part-find-end
+part-find-end c = search needs
+
+find-requires : tie.Need-find-requires
+find-requires c κs = search needs
+
+add-result : tie.Need-add-result
+add-result c = search needs
+
+returns : tie.Need-returns
+returns c =
+    let start = c .before .before .before in
+    rw (c .find .ensures .0, last-part (start .args .input .now) (start .args .taken))
+
+pub next-feed-spec : {M : Type 1} → statement M
+next-feed-spec =
+    tie.close (tie.spec sub-find part-find-start part-find-end find-requires add-result returns)

@@ -1,0 +1,128 @@
+// Rule texts tried line by line on a store of their own: bytes in, bytes out. The definition of what comes out is specs/Answers.antt.
+mod hold;
+mod kept;
+mod line;
+
+use base_ten::bytes::find;
+use hold::freshened;
+use kept::keep;
+use line::ROOM;
+use line::answer_held;
+use machine::Queue;
+ghost use mathlib.Core.Path.{_≡_};
+ghost use Prim.Native.Nat.{_+_, _≤_};
+ghost use lib.ListN.{length, drop};
+ghost use Rattle.base_ten.specs.Bytes.{lineFeed, before};
+ghost use Rattle.rule_lines.specs.Answers.{room};
+ghost use Rattle.rule_lines.specs.Progress.{state, rulesOf, Starts, Feeds, Finishes};
+
+// The bytes to lend for a line.
+pub const LINE_BYTES: usize = kept::KEPT_BYTES;
+
+// What is carried from one part of the input to the next: how many bytes of the present line are held, and the queue.
+pub struct Rules {
+    pub held: usize,
+    pub queue: Queue,
+}
+
+impl Rules {
+    pub fn start(table: &mut [u16]) -> Rules
+        ensures { λ r. ⌜ Starts (now (table .entry)) (now (table .exit)) r ⌝ }
+    {
+        Rules {
+            held: 0,
+            queue: freshened(table),
+        }
+    }
+}
+
+// After a part of the input: what is carried on, how much was taken, and how much was written.
+pub struct Fed {
+    pub rules: Rules,
+    pub taken: usize,
+    pub written: usize,
+}
+
+fn carried(held: usize, queue: Queue, taken: usize, written: usize) -> Fed
+    ensures { λ r. ⌜ (r .rules ≡ rulesOf held queue) × (r .taken ≡ taken) × (r .written ≡ written) ⌝ }
+{
+    Fed {
+        rules: Rules {
+            held: held,
+            queue: queue,
+        },
+        taken: taken,
+        written: written,
+    }
+}
+
+// The place of the first line feed of what is not yet taken, or the input's length where there is none.
+fn next_feed(input: &[u8], taken: usize) -> usize
+    requires { ⌜ taken ≤ length (now input) ⌝ }
+    ensures { λ r. ⌜ r ≡ taken + before lineFeed (drop taken (now (input .entry))) ⌝ }
+{
+    taken + find(&input[taken..], b'\n')
+}
+
+// Takes the input as far as the buffer has room for one more answer. Each whole line is answered, and what follows the last line feed is held.
+pub fn feed(
+    rules: Rules,
+    table: &mut [u16],
+    scratch: &mut [u16],
+    line: &mut [u8],
+    input: &[u8],
+    out: &mut [u8],
+) -> Fed
+    ensures { λ r. ⌜ Feeds (state rules (now (table .entry)) (now (scratch .entry)) (now (line .entry))) (now (input .entry))
+        (state (r .rules) (now (table .exit)) (now (scratch .exit)) (now (line .exit))) (r .taken) (r .written) (now (out .exit)) ⌝ }
+{
+    let mut held = rules.held;
+    let mut queue = rules.queue;
+    let mut taken = 0;
+    let mut written = 0;
+    let mut next = next_feed(input, taken);
+    while next < input.len() {
+        if out.len() - written < ROOM {
+            return carried(held, queue, taken, written);
+        }
+        let before = queue;
+        let answered = answer_held(
+            table,
+            before,
+            scratch,
+            line,
+            held,
+            &input[taken..next],
+            out,
+            written,
+        );
+        let after = answered.queue;
+        queue = after;
+        written = answered.end;
+        held = 0;
+        taken = next + 1;
+        next = next_feed(input, taken);
+    }
+    held = keep(line, held, &input[taken..]);
+    carried(held, queue, input.len(), written)
+}
+
+// At the end of the input a last line without its line feed is answered. The result is how much was written.
+pub fn finish(
+    rules: Rules,
+    table: &mut [u16],
+    scratch: &mut [u16],
+    line: &mut [u8],
+    out: &mut [u8],
+) -> usize
+    requires { ⌜ room ≤ length (now out) ⌝ }
+    ensures { λ r. ⌜ Finishes (state rules (now (table .entry)) (now (scratch .entry)) (now (line .entry))) r (now (out .exit)) ⌝ }
+{
+    let held = rules.held;
+    if held == 0 {
+        return 0;
+    }
+    let queue = rules.queue;
+    let answered = answer_held(table, queue, scratch, line, held, b"", out, 0);
+    answered.end
+}

@@ -1,0 +1,2 @@
+-- What the rules program hands on from call to call.
+pub mod Threading

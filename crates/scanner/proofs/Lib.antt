@@ -1,0 +1,5 @@
+-- Laws of scanning.
+pub mod TokenLaws
+pub mod ModeLaws
+pub mod DepthLaws
+pub mod ScanLaws

@@ -1,0 +1,3 @@
+-- Writing rule text.
+pub mod Front
+pub mod Writes
