@@ -2,13 +2,19 @@
 use mathlib.Core.Path.{_≡_, refl, sym, ap, _∙_}
 use mathlib.Core.Bool.{Bool, true, false, cond}
 use mathlib.Core.List.{List, [], _∷_, _++_, append-assoc}
-use Prim.Native.Nat.{ℕ, suc, _<_}
+use Prim.Native.Nat.{ℕ, zero, suc, _<_}
 use native.Mathlib.Omega.{arith}
 use lib.Dec.{eqb}
 use lib.ListN.{length, take}
 use Rattle.base_ten.specs.Bytes.{lineFeed, before, split, onFirst, linesOf}
 use Rattle.base_ten.specs.Lines.{lastLine, onto}
 use Rattle.base_ten.proofs.WordLaws.{append-none}
+
+-- a line's first bytes, one or more, are a last line
+pub last-line : (k : ℕ) (l : List ℕ) → (k ≡ 0 → ⊥) → (length l ≡ 0 → ⊥) → lastLine (take k l) ≡ take k l ∷ []
+last-line zero l h m = absurd (h refl)
+last-line (suc k) [] h m = absurd (m refl)
+last-line (suc k) (x ∷ xs) h m = refl
 
 pub onto-none : (ls : List (List ℕ)) → onto [] ls ≡ ls
 onto-none [] = refl

@@ -2,7 +2,7 @@
 ghost use mathlib.Core.Path.{_≡_};
 ghost use Prim.Native.Nat.{_+_, _≤_};
 ghost use lib.ListN.{length, drop};
-ghost use Rattle.base_ten.specs.Bytes.{sameBytes, before};
+ghost use Rattle.base_ten.specs.Bytes.{lineFeed, sameBytes, before};
 
 pub fn same(a: &[u8], b: &[u8]) -> bool
     ensures { λ r. ⌜ r ≡ sameBytes (now (a .entry)) (now (b .entry)) ⌝ }
@@ -56,4 +56,12 @@ pub fn find(s: &[u8], b: u8) -> usize
         i += 4;
     }
     find_from(s, i, b)
+}
+
+// The place of the first line feed from a place on, or the length where there is none.
+pub fn next_line_feed(s: &[u8], start: usize) -> usize
+    requires { ⌜ start ≤ length (now s) ⌝ }
+    ensures { λ r. ⌜ r ≡ start + before lineFeed (drop start (now (s .entry))) ⌝ }
+{
+    start + find(&s[start..], b'\n')
 }

@@ -1,5 +1,5 @@
 -- What each test of the parser tells of the request.
-use mathlib.Core.Path.{_≡_, refl, sym, ap, _∙_}
+use mathlib.Core.Path.{_≡_, refl, sym, _∙_}
 use mathlib.Core.Bool.{Bool, true, false, cond}
 use mathlib.Core.List.{List, [], _∷_}
 use Prim.Native.Nat.{ℕ, zero, suc, _+_, _-_, _≤_, _<_}
@@ -7,14 +7,14 @@ use native.Mathlib.Numerals.{add-one}
 use native.Mathlib.Omega.{arith}
 use Prim.Native.String.{String}
 use lib.Dec.{leb, eqb}
-use lib.ListN.{length, take, drop, getD, length-drop}
-use lib.Seq.{take-all}
+use lib.ListN.{length, take, drop}
 use borrow.Author.Tests.{eq-eqb, ne-eqb, le-leb, lt-leb}
 use Rattle.base_ten.specs.declared.Number
 use Rattle.base_ten.specs.declared.Number.{Number}
 use Rattle.base_ten.specs.Bytes.{ascii, sameBytes, before, onFirst, split, wordsOf, space}
 use Rattle.base_ten.proofs.ByteLaws.{same-equal}
 use Rattle.base_ten.proofs.WordLaws.{split-all, split-at}
+use Rattle.base_ten.proofs.KeepLaws.{last-part}
 use Rattle.machine.specs.declared.RowCall
 use Rattle.machine.specs.declared.RowCall.{RowCall}
 use Rattle.line_text.specs.declared.Request
@@ -118,13 +118,6 @@ alone-step s h = rw (same-equal s (ascii "step") h)
 pub alone-bad : (s : List ℕ) (n : ℕ) → n ≡ before space s → n ≡ length s → length s ≤ mostBytes → isnt s "step" → Request.Bad ≡ requestOf s
 unfolding withNone byWords
 alone-bad s n e h l other = rw (← line-short s l, words-one s n e h, other)
-
--- what a part from a place to the end holds
-pub last-part : (s : List ℕ) (n : ℕ) → take (length s - n) (drop n s) ≡ drop n s
-last-part s n = take-all (length s - n) (drop n s) (omega (arith, length-drop n s))
-
-pub last-part-length : (s : List ℕ) (n : ℕ) → length (take (length s - n) (drop n s)) ≡ length s - n
-last-part-length s n = ap length (last-part s n) ∙ length-drop n s
 
 pub more-words : (k s : List ℕ) (n : ℕ) → n ≡ before space s → n ≤ length s → (n ≡ length s → ⊥)
     → byWords (k ∷ take n s ∷ wordsOf (take (length s - (n + 1)) (drop (n + 1) s))) ≡ byWords (k ∷ wordsOf s)

@@ -8,6 +8,7 @@ use lib.Seq.{take-add, take-length}
 use Rattle.base_ten.specs.Bytes.{lineFeed, before, split}
 use Rattle.base_ten.specs.Lines.{lastLine}
 use Rattle.base_ten.proofs.WordLaws.{append-none, before-most}
+use Rattle.base_ten.proofs.LineLaws.{last-line}
 use Rattle.base_ten.proofs.KeepLaws.{last-part}
 use Rattle.machine.specs.declared.Queue.{Queue}
 use Rattle.rule_lines.specs.Answers.{answerLine, answers, room}
@@ -88,11 +89,6 @@ module _ {s₀ : State} {input out₀ : List ℕ} {s : State} {out : List ℕ} {
         tells = rw (take-length input, ← take-append-drop taken input, ← append-none (take written out))
             (tells-both (g .tells) (joined-tells s rest all (rw (last-part input taken) at kept)));
       }
-
-last-line : (k : ℕ) (l : List ℕ) → (k ≡ 0 → ⊥) → (length l ≡ 0 → ⊥) → lastLine (take k l) ≡ take k l ∷ []
-last-line zero l h m = absurd (h refl)
-last-line (suc k) [] h m = absurd (m refl)
-last-line (suc k) (x ∷ xs) h m = refl
 
 -- no line has begun
 pub finish-none : (s : State) (out : List ℕ) → s .rules .held ≡ 0 → Finishes s 0 out

@@ -3,16 +3,15 @@ mod hold;
 mod kept;
 mod line;
 
-use base_ten::bytes::find;
+use base_ten::bytes::next_line_feed;
 use hold::freshened;
 use kept::keep;
 use line::ROOM;
 use line::answer_held;
 use machine::Queue;
 ghost use mathlib.Core.Path.{_≡_};
-ghost use Prim.Native.Nat.{_+_, _≤_};
-ghost use lib.ListN.{length, drop};
-ghost use Rattle.base_ten.specs.Bytes.{lineFeed, before};
+ghost use Prim.Native.Nat.{_≤_};
+ghost use lib.ListN.{length};
 ghost use Rattle.rule_lines.specs.Answers.{room};
 ghost use Rattle.rule_lines.specs.Progress.{state, rulesOf, Starts, Feeds, Finishes};
 
@@ -56,14 +55,6 @@ fn carried(held: usize, queue: Queue, taken: usize, written: usize) -> Fed
     }
 }
 
-// The place of the first line feed of what is not yet taken, or the input's length where there is none.
-fn next_feed(input: &[u8], taken: usize) -> usize
-    requires { ⌜ taken ≤ length (now input) ⌝ }
-    ensures { λ r. ⌜ r ≡ taken + before lineFeed (drop taken (now (input .entry))) ⌝ }
-{
-    taken + find(&input[taken..], b'\n')
-}
-
 // Takes the input as far as the buffer has room for one more answer. Each whole line is answered, and what follows the last line feed is held.
 pub fn feed(
     rules: Rules,
@@ -80,7 +71,7 @@ pub fn feed(
     let mut queue = rules.queue;
     let mut taken = 0;
     let mut written = 0;
-    let mut next = next_feed(input, taken);
+    let mut next = next_line_feed(input, taken);
     while next < input.len() {
         if out.len() - written < ROOM {
             return carried(held, queue, taken, written);
@@ -101,7 +92,7 @@ pub fn feed(
         written = answered.end;
         held = 0;
         taken = next + 1;
-        next = next_feed(input, taken);
+        next = next_line_feed(input, taken);
     }
     held = keep(line, held, &input[taken..]);
     carried(held, queue, input.len(), written)

@@ -7,7 +7,7 @@ use native.Mathlib.Omega.{arith}
 use lib.ListN.{length, take, drop, length-append}
 use lib.Seq.{take-add, length-take-le}
 use Rattle.base_ten.proofs.WordLaws.{append-none}
-use Rattle.line_text.proofs.RequestLaws.{last-part, last-part-length}
+use Rattle.base_ten.proofs.KeepLaws.{last-part, last-part-length}
 use Rattle.session_lines.specs.declared.Session.{Session}
 use Rattle.session_lines.specs.Progress.{Feeds, Finishes}
 use Rattle.session_lines.specs.Whole.{State, Part, left, FedPart, Fed, lastState, taken, inputs, begin}

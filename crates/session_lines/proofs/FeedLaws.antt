@@ -6,7 +6,10 @@ use native.Mathlib.Omega.{arith}
 use lib.ListN.{length, take, drop, length-drop, take-append-drop}
 use lib.Seq.{take-add, take-length}
 use Rattle.base_ten.specs.Bytes.{lineFeed, before, split}
+use Rattle.base_ten.specs.Lines.{lastLine}
 use Rattle.base_ten.specs.Put.{Put}
+use Rattle.base_ten.proofs.LineLaws.{last-line}
+use Rattle.base_ten.proofs.KeepLaws.{last-part, take-cap}
 use Rattle.base_ten.proofs.WordLaws.{append-none, before-most}
 use Rattle.machine.specs.declared.Queue.{Queue}
 use Rattle.machine.specs.Calls.{store}
@@ -17,13 +20,11 @@ use Rattle.line_text.specs.Kept.{keptBytes, Keeps}
 use Rattle.line_text.specs.Texts.{room, outputLine}
 use Rattle.line_text.specs.Put.{ShowsTens, Next}
 use Rattle.line_text.proofs.PutLaws.{output-length}
-use Rattle.line_text.proofs.RequestLaws.{last-part}
-use Rattle.line_text.proofs.KeepLaws.{take-cap}
 use Rattle.session_lines.specs.declared.Session.{Session}
 use Rattle.session_lines.specs.Listing.{listed}
 use Rattle.serving.specs.Serving.{Good}
 use Rattle.serving.proofs.ServeLaws.{Serves}
-use Rattle.session_lines.specs.Progress.{lastLine, sessionOf, begunLine, ahead, Tells, FeedsLines, Finishes}
+use Rattle.session_lines.specs.Progress.{sessionOf, begunLine, ahead, Tells, FeedsLines, Finishes}
 use Rattle.session_lines.proofs.TellsLaws.{line-tells, joined-tells, ended-tells, tells-both}
 
 -- How far the lines have come: the sizes stand, the number is shown, and what was taken gave what was written.
@@ -130,11 +131,6 @@ module _ {table₀ scratch₀ input out₀ line : List ℕ} {s₀ : Session} {ta
         let zero-held : held ≡ 0 = going .none (omega arith) in
         kept .front whole ∙ rw (e, one, zero-held);
   }
-
-last-line : (k : ℕ) (l : List ℕ) → (k ≡ 0 → ⊥) → (length l ≡ 0 → ⊥) → lastLine (take k l) ≡ take k l ∷ []
-last-line zero l h m = absurd (h refl)
-last-line (suc k) [] h m = absurd (m refl)
-last-line (suc k) (x ∷ xs) h m = refl
 
 module _ (s : Session) {held : ℕ} (size : length (s .line) ≡ keptBytes) (capped : held ≡ min (s .held) keptBytes) where
   begun : begunLine s ≡ take held (s .line)

@@ -7,6 +7,8 @@ use native.Mathlib.Omega.{arith}
 use lib.ListN.{length, take, length-append}
 use lib.Seq.{length-take-le}
 use Rattle.base_ten.specs.Bytes.{lineFeed, before, linesOf}
+use Rattle.base_ten.specs.Lines.{onto}
+use Rattle.base_ten.proofs.LineLaws.{onto-none, lines-joined, lines-ended}
 use Rattle.machine.specs.declared.Queue.{Queue}
 use Rattle.machine.specs.Calls.{Store, store}
 use Rattle.line_text.specs.declared.Request.{Request}
@@ -19,8 +21,8 @@ use Rattle.line_text.specs.Texts.{outputLine}
 use Rattle.serving.specs.Serving.{served, Good}
 use Rattle.session_lines.specs.Listing.{listed}
 use Rattle.serving.proofs.ServeLaws.{Serves}
-use Rattle.session_lines.specs.Progress.{onto, sessionOf, begunLine, ahead, TellsLine, Tells}
-use Rattle.session_lines.proofs.LineLaws.{onto-none, lines-joined, lines-ended, listed-capped}
+use Rattle.session_lines.specs.Progress.{sessionOf, begunLine, ahead, TellsLine, Tells}
+use Rattle.session_lines.proofs.LineLaws.{listed-capped}
 
 -- a served line's output is its line of the listing
 pub line-tells : {line : List ℕ} {lines : ℕ} {s : Store} {request : Request} {v : Verdict} {s′ : Store} {number : ℕ}

@@ -6,13 +6,13 @@ use native.Mathlib.Omega.{arith}
 use lib.ListN.{length, take}
 use Rattle.base_ten.specs.Bytes.{linesOf}
 use Rattle.base_ten.proofs.WordLaws.{append-none}
+use Rattle.base_ten.proofs.LineLaws.{onto-none}
 use Rattle.session_lines.specs.Listing.{listed, listingWith, listing}
 use Rattle.machine.specs.Words.{mostCells}
 use Rattle.serving.specs.Serving.{unmade}
 use Rattle.serving.proofs.ServeLaws.{unmade-good}
 use Rattle.session_lines.specs.Progress.{ahead, Tells, Feeds, Finishes}
 use Rattle.session_lines.specs.Whole.{State, Part, Fed, lastState, inputs, outputs, begin, Whole}
-use Rattle.session_lines.proofs.LineLaws.{onto-none}
 use Rattle.session_lines.proofs.TellsLaws.{tells-both, tells-none}
 
 all-tells : (s : State) (ps : List Part) → Fed s ps

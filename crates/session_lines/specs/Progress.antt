@@ -4,6 +4,7 @@ use mathlib.Core.List.{List, [], _∷_, _++_}
 use Prim.Native.Nat.{ℕ, _+_, _^_, _≤_, _<_}
 use lib.ListN.{length, take, replicate}
 use Rattle.base_ten.specs.Bytes.{lineFeed, linesOf}
+use Rattle.base_ten.specs.Lines.{onto}
 use Rattle.machine.specs.declared.Queue.{Queue}
 use Rattle.machine.specs.Queue.{emptyQueue}
 use Rattle.machine.specs.Calls.{Store, store}
@@ -12,16 +13,6 @@ use Rattle.line_text.specs.Texts.{room}
 use Rattle.session_lines.specs.declared.Session.{Session}
 use Rattle.session_lines.specs.Listing.{listed}
 use Rattle.serving.specs.Serving.{Good}
-
--- a last line without its line feed, if it has a byte
-abbrev pub lastLine : List ℕ → List (List ℕ)
-lastLine [] = []
-lastLine (b ∷ bs) = (b ∷ bs) ∷ []
-
--- the bytes of a line that has begun, in front of the lines that the rest gives
-abbrev pub onto : List ℕ → List (List ℕ) → List (List ℕ)
-onto begun [] = lastLine begun
-onto begun (l ∷ ls) = (begun ++ l) ∷ ls
 
 -- before any input
 abbrev pub started : Session

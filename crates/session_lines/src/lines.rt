@@ -1,7 +1,7 @@
 // Lines served where they lie in the input.
 use crate::Fed;
 use crate::Session;
-use base_ten::bytes::find;
+use base_ten::bytes::next_line_feed;
 use base_ten::put::MOST_DIGITS;
 use line_text::Request;
 use line_text::Verdict;
@@ -19,9 +19,7 @@ use serving::row_verdict;
 use serving::step_verdict;
 ghost use mathlib.Core.Path.{_≡_};
 ghost use mathlib.Core.List.{_++_};
-ghost use Prim.Native.Nat.{_+_, _≤_};
-ghost use lib.ListN.{length, take, drop};
-ghost use Rattle.base_ten.specs.Bytes.{lineFeed, before};
+ghost use lib.ListN.{length, take};
 ghost use Rattle.line_text.specs.Requests.{requestOf};
 ghost use Rattle.line_text.specs.Kept.{keptBytes};
 ghost use Rattle.session_lines.specs.Progress.{sessionOf, FeedsLines};
@@ -37,14 +35,6 @@ fn request(line: &[u8; KEPT_BYTES], held: usize, part: &[u8]) -> Request
     let mut whole = *line;
     let size = keep(&mut whole, held, part);
     parse(&whole[..size])
-}
-
-// The place of the first line feed of what is not yet taken, or the input's length where there is none.
-fn next_feed(input: &[u8], taken: usize) -> usize
-    requires { ⌜ taken ≤ length (now input) ⌝ }
-    ensures { λ r. ⌜ r ≡ taken + before lineFeed (drop taken (now (input .entry))) ⌝ }
-{
-    taken + find(&input[taken..], b'\n')
 }
 
 fn fed(
@@ -89,7 +79,7 @@ pub fn serve_lines(
     let mut size = number_text(&mut number, lines);
     let mut taken = 0;
     let mut written = 0;
-    let mut feed = next_feed(input, taken);
+    let mut feed = next_line_feed(input, taken);
     while feed < input.len() {
         if out.len() - written < ROOM {
             return fed(line, held, lines, queue, taken, written);
@@ -122,7 +112,7 @@ pub fn serve_lines(
         }
         written = put_line(out, written, &number, size, lines, verdict);
         taken = feed + 1;
-        feed = next_feed(input, taken);
+        feed = next_line_feed(input, taken);
     }
     held = keep(&mut line, held, &input[taken..]);
     fed(line, held, lines, queue, input.len(), written)

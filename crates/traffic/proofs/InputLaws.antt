@@ -12,9 +12,12 @@ use borrow.Author.Tests.{eqb-true, eqb-false}
 use Rattle.base_ten.specs.declared.Number
 use Rattle.base_ten.specs.declared.Number.{Number}
 use Rattle.base_ten.specs.Bytes.{lineFeed, space, before, onFirst, split, linesOf, wordsOf}
+use Rattle.base_ten.specs.Lines.{lastLine, onto}
 use Rattle.base_ten.specs.Numbers.{numberOf}
-use Rattle.base_ten.proofs.WordLaws.{split-at}
-use Rattle.line_text.proofs.RequestLaws.{words-one, words-more, some-word, last-part}
+use Rattle.base_ten.proofs.WordLaws.{append-none, split-at}
+use Rattle.base_ten.proofs.LineLaws.{onto-none, lines-joined}
+use Rattle.base_ten.proofs.KeepLaws.{last-part}
+use Rattle.line_text.proofs.RequestLaws.{words-one, words-more, some-word}
 use Rattle.traffic.specs.declared.Workload
 use Rattle.traffic.specs.declared.Workload.{Workload}
 use Rattle.traffic.specs.Workload.{mostSeed, mostCount, ifAll, byWords, byLines, workloadOf}
@@ -54,27 +57,9 @@ unfolding byWords
 all-numbers a b d ex ey ez = rw (ex, ey, ez)
 
 -- lines, by the place of the first line feed
-abbrev lastLine : List ℕ → List (List ℕ)
-lastLine [] = []
-lastLine (x ∷ xs) = (x ∷ xs) ∷ []
-
-onto-last : (x : ℕ) (xs : List ℕ) → onFirst x (lastLine xs) ≡ (x ∷ xs) ∷ []
-onto-last x [] = refl
-onto-last x (y ∷ ys) = refl
-
 line-alone : (s : List ℕ) → before lineFeed s ≡ length s → linesOf s ≡ lastLine s
-unfolding before split
-line-alone [] h = refl
-line-alone (x ∷ xs) h = go (eqb x lineFeed) h (line-alone xs)
-  where
-    go : (t : Bool) → cond t 0 (suc (before lineFeed xs)) ≡ suc (length xs)
-        → (before lineFeed xs ≡ length xs → linesOf xs ≡ lastLine xs)
-        → cond t ([] ∷ linesOf xs) (onFirst x (linesOf xs)) ≡ (x ∷ xs) ∷ []
-    go true l ih = absurd (never l)
-      where
-        never : 0 ≡ suc (length xs) → ⊥
-        never p = omega arith
-    go false l ih = rw (ih (omega arith)) (onto-last x xs)
+unfolding split
+line-alone s h = sym (onto-none (linesOf s)) ∙ ap (λ (x : List ℕ). onto [] (linesOf x)) (sym (append-none s)) ∙ lines-joined [] s [] h
 
 some-line : (s : List ℕ) → 0 < length s → (w : List ℕ) × (ws : List (List ℕ)) × (linesOf s ≡ w ∷ ws)
 unfolding split

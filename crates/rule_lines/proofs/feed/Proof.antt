@@ -16,8 +16,8 @@ Inv-loop table₀ scratch₀ line₀ input out₀ held₀ queue₀ taken₀ writ
 abbrev μ-loop : tie.MeasureT-loop
 μ-loop table₀ scratch₀ line₀ input out₀ held₀ queue₀ taken₀ written₀ next₀ table scratch line out held queue taken written next = length input - taken
 
-next-feed-requires : tie.Need-next-feed-requires Inv-loop μ-loop
-next-feed-requires c κs = omega arith
+next-line-feed-requires : tie.Need-next-line-feed-requires Inv-loop μ-loop
+next-line-feed-requires c κs = omega arith
 
 loop-holds : tie.Need-loop-holds Inv-loop μ-loop
 loop-holds c =
@@ -25,7 +25,7 @@ loop-holds c =
       most = omega arith;
       within = omega arith;
       nothing = λ e. refl;
-      found = c .next-feed .ensures;
+      found = c .next-line-feed .ensures;
       tableSize = refl;
       scratchSize = refl;
       lineSize = refl;
@@ -75,8 +75,8 @@ add-taken c =
     let at-loop-test = c .before .before .before .before .before .before .before .before .before .before .before .before .before .before .before .before in
     omega (arith, at-loop-test .loop-test .taken, at-loop-test .before .before .before .before .before .before .before .before .before .good)
 
-next-feed-requires-2 : tie.Need-next-feed-requires-2 Inv-loop μ-loop
-next-feed-requires-2 c κs = omega (arith, c .before .before .before .before .before .before .before .before .before .before .before .before .before .before .before .before .loop-test .taken)
+next-line-feed-requires-2 : tie.Need-next-line-feed-requires-2 Inv-loop μ-loop
+next-line-feed-requires-2 c κs = omega (arith, c .before .before .before .before .before .before .before .before .before .before .before .before .before .before .before .before .loop-test .taken)
 
 loop-less : tie.Need-loop-less Inv-loop μ-loop
 loop-less c =
@@ -96,7 +96,7 @@ loop-again c =
       most = omega (arith, inside);
       within = omega (arith, k .ensures .within, k .kept .1 .1 .1 .1 .1 .1 .0, at-if1 .if1 .left, i .within);
       nothing = λ e. omega arith;
-      found = c .next-feed2 .ensures;
+      found = c .next-line-feed2 .ensures;
       tableSize = k .kept .0 ∙ i .tableSize;
       scratchSize = k .kept .1 .1 .0 ∙ i .scratchSize;
       lineSize = k .kept .1 .1 .1 .0 ∙ i .lineSize;
@@ -143,7 +143,7 @@ feed-spec =
     (tie.spec
     Inv-loop
     μ-loop
-    next-feed-requires
+    next-line-feed-requires
     loop-holds
     sub-if1
     carried-requires
@@ -157,7 +157,7 @@ feed-spec =
     part-answer-held-end
     answer-held-requires
     add-taken
-    next-feed-requires-2
+    next-line-feed-requires-2
     loop-less
     loop-again
     sub-keep

@@ -4,7 +4,7 @@ use native.Mathlib.Omega.{arith}
 use lib.Seq.{length-take-le}
 use lib.ListN.{length}
 use borrow.Author.Needs.{needs}
-use Rattle.line_text.proofs.RequestLaws.{last-part-length}
+use Rattle.base_ten.proofs.KeepLaws.{last-part-length}
 use Rattle.session.proofs.ThreadingLaws.{Relaying, threads-none, more-most, more-threads}
 use Rattle.session.proofs.relay.Statement.{statement}
 use Rattle.session.proofs.relay.Tie as tie

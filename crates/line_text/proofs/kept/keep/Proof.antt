@@ -5,8 +5,8 @@ use native.Mathlib.Omega.{arith}
 use lib.ListN.{length, take, length-set}
 use borrow.Author.Needs.{needs}
 use Rattle.base_ten.proofs.PutLaws.{word-none}
+use Rattle.base_ten.proofs.KeepLaws.{kept-more, kept-full, kept-all}
 use Rattle.line_text.specs.Kept.{keptBytes}
-use Rattle.line_text.proofs.KeepLaws.{kept-more, kept-full, kept-all}
 use Rattle.line_text.proofs.kept.keep.Statement.{statement}
 use Rattle.line_text.proofs.kept.keep.Tie as tie
 
@@ -39,7 +39,7 @@ returns c =
     record {
       most = omega arith;
       size = l .inv .3;
-      front = λ h. kept-full (a .line .now) (l .line) (a .part .now) (a .held) (l .i) (at-capped .capped .ensures) h
+      front = λ h. kept-full keptBytes (a .line .now) (l .line) (a .part .now) (a .held) (l .i) (at-capped .capped .ensures) h
           (l .inv .1) (omega arith) (l .inv .4 h) (omega arith);
     }
 
@@ -83,7 +83,7 @@ returns-2 c =
     record {
       most = omega arith;
       size = l .inv .3;
-      front = λ h. kept-all (a .line .now) (l .line) (a .part .now) (a .held) (l .i) (at-capped .capped .ensures) h
+      front = λ h. kept-all keptBytes (a .line .now) (l .line) (a .part .now) (a .held) (l .i) (at-capped .capped .ensures) h
           (l .inv .1) (omega arith) (l .inv .4 h) (omega arith);
     }
 

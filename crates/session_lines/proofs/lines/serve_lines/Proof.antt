@@ -67,8 +67,8 @@ answered c =
 number-text-requires : tie.Need-number-text-requires Inv-loop μ-loop
 number-text-requires c κs = search needs
 
-next-feed-requires : tie.Need-next-feed-requires Inv-loop μ-loop
-next-feed-requires c κs = omega arith
+next-line-feed-requires : tie.Need-next-line-feed-requires Inv-loop μ-loop
+next-line-feed-requires c κs = omega arith
 
 loop-holds : tie.Need-loop-holds Inv-loop μ-loop
 loop-holds c =
@@ -77,7 +77,7 @@ loop-holds c =
       within = omega arith;
       nothing = λ e. refl;
       none = λ h. absurd (never h);
-      found = c .next-feed .ensures;
+      found = c .next-line-feed .ensures;
       shown = c .before .number-text .ensures;
       tableSize = refl;
       scratchSize = refl;
@@ -167,8 +167,8 @@ add-taken c =
     let at-loop-test = turn (c .before .before .before .before .before) in
     omega (arith, at-loop-test .loop-test .taken, entry (at-loop-test .before) .good)
 
-next-feed-requires-2 : tie.Need-next-feed-requires-2 Inv-loop μ-loop
-next-feed-requires-2 c κs = let at-loop-test = turn (c .before .before .before .before .before) in omega (arith, at-loop-test .loop-test .taken)
+next-line-feed-requires-2 : tie.Need-next-line-feed-requires-2 Inv-loop μ-loop
+next-line-feed-requires-2 c κs = let at-loop-test = turn (c .before .before .before .before .before) in omega (arith, at-loop-test .loop-test .taken)
 
 loop-less : tie.Need-loop-less Inv-loop μ-loop
 loop-less c =
@@ -197,7 +197,7 @@ loop-again c =
       within = next-within number (at-match .match .verdict) (omega (arith, at-if1 .if1 .left, i .within)) (k .kept .0) (k .ensures);
       nothing = λ e. omega arith;
       none = λ h. refl;
-      found = c .next-feed2 .ensures;
+      found = c .next-line-feed2 .ensures;
       shown = now-shown at-count-up;
       tableSize = a .tableSize ∙ i .tableSize;
       scratchSize = a .scratchSize ∙ i .scratchSize;
@@ -246,7 +246,7 @@ serve-lines-spec =
     Inv-loop
     μ-loop
     number-text-requires
-    next-feed-requires
+    next-line-feed-requires
     loop-holds
     sub-if1
     fed-requires
@@ -272,7 +272,7 @@ serve-lines-spec =
     step-verdict-requires
     put-line-requires
     add-taken
-    next-feed-requires-2
+    next-line-feed-requires-2
     loop-less
     loop-again
     sub-keep

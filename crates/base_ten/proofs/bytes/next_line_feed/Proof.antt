@@ -1,7 +1,7 @@
+use Rattle.base_ten.proofs.KeepLaws.{last-part}
 use borrow.Author.Needs.{needs}
-use Rattle.line_text.proofs.RequestLaws.{last-part}
-use Rattle.session_lines.proofs.lines.next_feed.Statement.{statement}
-use Rattle.session_lines.proofs.lines.next_feed.Tie as tie
+use Rattle.base_ten.proofs.bytes.next_line_feed.Statement.{statement}
+use Rattle.base_ten.proofs.bytes.next_line_feed.Tie as tie
 
 sub-find : tie.Need-sub-find
 sub-find c = search needs
@@ -21,8 +21,8 @@ add-result c = search needs
 returns : tie.Need-returns
 returns c =
     let start = c .before .before .before in
-    rw (c .find .ensures .0, last-part (start .args .input .now) (start .args .taken))
+    rw (c .find .ensures .0, last-part (start .args .s .now) (start .args .start))
 
-pub next-feed-spec : {M : Type 1} → statement M
-next-feed-spec =
+pub next-line-feed-spec : {M : Type 1} → statement M
+next-line-feed-spec =
     tie.close (tie.spec sub-find part-find-start part-find-end find-requires add-result returns)
