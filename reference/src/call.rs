@@ -38,7 +38,7 @@ pub enum Reply {
 
 impl Call {
     /// Makes the call. On a store that fails the audit, a call may do anything
-    /// past question 5, unless it is decided on any store.
+    /// past its first questions, unless it is decided on any store.
     pub fn perform(self, store: &mut Store) -> Reply {
         self.attempt(store).unwrap_or_else(Reply::Refused)
     }
@@ -88,7 +88,7 @@ impl Call {
         matches!(self, Call::Car(NIL) | Call::Cdr(NIL))
     }
 
-    /// Questions 1 to 5, without making the call.
+    /// Questions 1 to 5 and 14, without making the call.
     pub fn first_questions(self, store: &Store) -> Result<(), Refusal> {
         let Store {
             table,

@@ -1,5 +1,5 @@
 //! The questions asked before a call. The first "no" is the refusal. Questions 11
-//! to 13 (A4) are asked in `rule_text`.
+//! to 13 (A4) are asked in `rule_text`, which asks 14 (A5) from here.
 
 use crate::queue::Queue;
 use crate::table::*;
@@ -22,6 +22,8 @@ pub enum Refusal {
     Deep = 12,
     /// A text that doesn't fit the buffer.
     Buffer = 13,
+    /// A clipped reading that would be stored.
+    Clipped = 14,
 }
 
 fn ask(yes: bool, refusal: Refusal) -> Result<(), Refusal> {
@@ -58,8 +60,13 @@ fn cell(word: u16, cells: u16) -> Result<(), Refusal> {
     ask(is_cell(word, cells), Refusal::NotCell)
 }
 
-// Questions 1 to 5, call by call. They are answered as written on any store;
-// the later ones are decided on sound stores only.
+/// Question 14 (A5) of a word that is to be stored.
+pub fn may_be_stored(word: u16) -> Result<(), Refusal> {
+    ask(!is_clipped(word), Refusal::Clipped)
+}
+
+// Questions 1 to 5 and then 14, call by call. They are answered as written on any
+// store; the later ones are decided on sound stores only.
 
 /// Fresh has only question 3 and the length part of question 1, in that order.
 pub fn before_fresh(table: &[u16], cells: u16) -> Result<(), Refusal> {
@@ -67,28 +74,37 @@ pub fn before_fresh(table: &[u16], cells: u16) -> Result<(), Refusal> {
     ask(table.len() >= length(cells), Refusal::Store)
 }
 
+/// Question 1, then question 4 of each of these words. Gives C.
+pub fn legal_words(table: &[u16], queue: &Queue, words: &[u16]) -> Result<u16, Refusal> {
+    let cells = store(table, queue)?;
+    for &operand in words {
+        word(operand, cells)?;
+    }
+    Ok(cells)
+}
+
 /// Questions 1, 4 and 5 of car and cdr. Nil can be read (A1) and isn't asked 5.
 pub fn before_read(table: &[u16], queue: &Queue, x: u16) -> Result<u16, Refusal> {
-    let cells = store(table, queue)?;
-    word(x, cells)?;
+    let cells = legal_words(table, queue, &[x])?;
     if x != NIL {
         cell(x, cells)?;
     }
     Ok(cells)
 }
 
-/// Questions 1 and 4 of cons.
+/// Questions 1, 4 and 14 of cons, which stores both operands.
 pub fn before_cons(table: &[u16], queue: &Queue, x: u16, y: u16) -> Result<u16, Refusal> {
-    let cells = store(table, queue)?;
-    word(x, cells)?;
-    word(y, cells)?;
+    let cells = legal_words(table, queue, &[x, y])?;
+    may_be_stored(x)?;
+    may_be_stored(y)?;
     Ok(cells)
 }
 
-/// Questions 1, 4 and 5 of the replaces.
+/// Questions 1, 4, 5 and 14 of the replaces, which store y.
 pub fn before_replace(table: &[u16], queue: &Queue, x: u16, y: u16) -> Result<u16, Refusal> {
-    let cells = before_cons(table, queue, x, y)?;
+    let cells = legal_words(table, queue, &[x, y])?;
     cell(x, cells)?;
+    may_be_stored(y)?;
     Ok(cells)
 }
 

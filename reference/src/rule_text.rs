@@ -28,15 +28,28 @@ pub fn read(table: &mut [u16], queue: &mut Queue, text: &[u8]) -> Result<u16, Re
     Ok(word)
 }
 
-/// Questions 1, 11 and 12 of reading, which go by the text and are answered as
-/// written on any store. Gives what the text says.
+/// Questions 1, 11, 12 and 14 of reading, which go by the text and are answered
+/// as written on any store. Gives what the text says.
 pub fn before_read(table: &[u16], queue: &Queue, text: &[u8]) -> Result<Element, Refusal> {
     question::store(table, queue)?;
     let element = notation::parse(text).ok_or(Refusal::Outside)?;
     if notation::deepest(text) > MAX_OPEN {
         return Err(Refusal::Deep);
     }
+    may_be_stored(&element)?;
     Ok(element)
+}
+
+/// Question 14 (A5) of every atom, also of one that is the whole text.
+fn may_be_stored(element: &Element) -> Result<(), Refusal> {
+    match element {
+        Element::Nil => Ok(()),
+        Element::Atom(value) => question::may_be_stored(FIRST_ATOM + value),
+        Element::List(elements, last) => {
+            let mut all = elements.iter().chain(last.as_deref());
+            all.try_for_each(may_be_stored)
+        }
+    }
 }
 
 fn empty_slots(queue: &Queue) -> usize {
@@ -89,10 +102,9 @@ pub fn write(table: &[u16], queue: &Queue, word: u16, buffer: &mut [u8]) -> Resu
     Ok(length)
 }
 
-/// Questions 1 and 4 of writing. Gives C.
+/// Questions 1 and 4 of writing, which stores nothing and isn't asked 14. Gives C.
 pub fn before_write(table: &[u16], queue: &Queue, word: u16) -> Result<u16, Refusal> {
-    // Cons asks these two of its operands and nothing else up to question 5.
-    question::before_cons(table, queue, word, NIL)
+    question::legal_words(table, queue, &[word])
 }
 
 /// The text so far, from left to right, with the first refusal that is met.

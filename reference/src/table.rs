@@ -7,6 +7,8 @@ pub const MAX_COUNT: u16 = 4_095;
 
 pub const NIL: u16 = 0;
 pub const FIRST_ATOM: u16 = 32_768;
+/// The value at which the converter clips a reading (A5).
+pub const CLIP: u16 = 4_095;
 
 // The header words.
 pub const CELLS: usize = 0;
@@ -51,6 +53,12 @@ pub const fn is_cell(word: u16, cells: u16) -> bool {
 #[inline]
 pub const fn is_legal(word: u16, cells: u16) -> bool {
     word <= cells || word >= FIRST_ATOM
+}
+
+/// An atom of value 4,095 or more, which may not be stored (A5).
+#[inline]
+pub const fn is_clipped(word: u16) -> bool {
+    word >= FIRST_ATOM + CLIP
 }
 
 #[inline]

@@ -55,7 +55,7 @@ impl TextCall {
     }
 
     /// The questions that are answered as written on any store, without making
-    /// the call: 1, 11 and 12 of reading, 1 and 4 of writing.
+    /// the call: 1, 11, 12 and 14 of reading, 1 and 4 of writing.
     pub fn first_questions(&self, store: &Store) -> Result<(), Refusal> {
         let Store { table, queue, .. } = store;
         match self {

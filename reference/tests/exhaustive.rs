@@ -8,7 +8,7 @@ use reference::store::Store;
 use reference::table::length;
 
 fn all_calls() -> Vec<Call> {
-    let words = [0, 1, 2, 32_768];
+    let words = [0, 1, 2, 32_768, 36_863];
     let mut calls = vec![Call::Step];
     for x in words {
         calls.extend([Call::Car(x), Call::Cdr(x), Call::Up(x, 1), Call::Down(x, 1)]);

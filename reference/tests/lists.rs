@@ -512,6 +512,83 @@ fn lists_read_nil_on_damaged_stores() {
     assert!(reads.unfit >= 10 && reads.damaged >= 10, "{reads:?}");
 }
 
+/// The stores of a list, as lent, that are sound and that aren't, with a clipped
+/// reading in a cell in use.
+fn stores_with_clipped(list: &str) -> (usize, usize) {
+    let (mut sound, mut damaged) = (0, 0);
+    let mut reader = Reader::new(list.as_bytes());
+    let mut runner = Runner::new();
+    let mut lent = false;
+    while let Some(line) = reader.line().unwrap() {
+        match line {
+            Line::Lent(line) => {
+                runner.lend(line).unwrap();
+                lent = true;
+                continue;
+            }
+            Line::Call(..) | Line::Text(..) if lent => {
+                let mut store = runner.store().clone();
+                store.scratch = vec![0; 4_096];
+                match Call::Audit.perform(&mut store) {
+                    Reply::Sound if slow::contains_clipped(&store) => sound += 1,
+                    Reply::Broken(_) if slow::contains_clipped(&store) => damaged += 1,
+                    _ => {}
+                }
+                lent = false;
+            }
+            _ => {}
+        }
+    }
+    (sound, damaged)
+}
+
+/// Stores are lent that no list of calls makes any more (A5).
+#[test]
+fn lists_lend_stores_with_clipped_readings() {
+    for (name, least_sound, least_damaged) in [
+        ("s1", 1, 10),
+        ("s2", 1, 10),
+        ("s3", 1, 10),
+        ("s4", 1, 10),
+        ("s5", 1, 5),
+        ("question1", 1, 5),
+        ("question2", 5, 5),
+        ("operands", 1, 0),
+        ("snapshots", 10, 0),
+        ("mutants", 1, 10),
+        ("garbage", 0, 3),
+        ("rows", 10, 0),
+        ("rings", 5, 0),
+        ("wrecks", 3, 10),
+        ("clipped", 30, 20),
+        ("text-borders", 3, 0),
+        ("text-queues", 10, 0),
+        ("text-free", 10, 0),
+        ("text-mixed", 3, 0),
+        ("text-back", 10, 0),
+        ("text-shapes", 10, 0),
+        ("text-damaged", 3, 10),
+        ("text-clipped", 6, 10),
+    ] {
+        let (sound, damaged) = stores_with_clipped(&list(name, 1, 50));
+        assert!(sound >= least_sound, "{name}: {sound} sound");
+        assert!(damaged >= least_damaged, "{name}: {damaged} damaged");
+    }
+}
+
+/// A small share of the calls of these lists is refused by 14, and not none.
+#[test]
+fn lists_refuse_clipped_readings_in_small_shares() {
+    for name in ["runs", "large", "rows", "text-mixed", "text-random"] {
+        let output = fast_output(&list(name, 1, 400));
+        let is_call = |line: &&str| line.starts_with(['C', 'B']);
+        let calls = output.lines().filter(is_call).count();
+        let refused = count(&output, " NO 14");
+        let share = 1_000 * refused / calls;
+        assert!((1..150).contains(&share), "{name}: {refused} of {calls}");
+    }
+}
+
 #[test]
 fn rows_read_nil_with_full_queues() {
     let reads = nil_reads(&list("rows", 1, 128));
@@ -536,7 +613,8 @@ fn gate_lists_have_what_they_are_for() {
                 assert!(code.parse::<u16>().unwrap() <= last, "{name}: {line}");
             }
         }
-        for question in (1..=10).filter(|&question| last > 7 || question != 2) {
+        let questions = (1..=10).chain([14]);
+        for question in questions.filter(|&question| last > 7 || question != 2) {
             let times = count(&output, &format!(" NO {question}"));
             assert!(times >= 10, "{name}: NO {question} {times} times");
         }
@@ -565,7 +643,8 @@ fn gate_lists_have_what_they_are_for() {
 /// The list for the gate's program with text calls, and what is expected of it.
 fn text_cases() -> (String, String) {
     let root = Path::new(env!("CARGO_MANIFEST_DIR")).parent().unwrap();
-    let read = |name: &str| fs::read_to_string(root.join("reference/cases/gate").join(name)).unwrap();
+    let read =
+        |name: &str| fs::read_to_string(root.join("reference/cases/gate").join(name)).unwrap();
     (read("texts.list"), read("texts.out"))
 }
 
@@ -579,7 +658,7 @@ fn text_cases_give_what_is_stored() {
 #[test]
 fn text_cases_have_what_they_are_for() {
     let (list, output) = text_cases();
-    assert!(list.len() < 1_200_000 && output.len() < 3_000_000);
+    assert!(list.len() < 1_400_000 && output.len() < 3_000_000);
     let mut texts = BTreeSet::new();
     let mut fresh = BTreeSet::new();
     for line in list.lines() {
@@ -622,7 +701,16 @@ fn text_cases_have_what_they_are_for() {
     let all_of = [
         (
             10,
-            &["OK", "NO 1", "NO 7", "NO 8", "NO 11", "NO 12", "UNDECIDED"][..],
+            &[
+                "OK",
+                "NO 1",
+                "NO 7",
+                "NO 8",
+                "NO 11",
+                "NO 12",
+                "NO 14",
+                "UNDECIDED",
+            ][..],
         ),
         (
             11,
@@ -645,7 +733,7 @@ fn text_cases_have_what_they_are_for() {
 }
 
 /// Which questions of the text calls are answered on a store that fails the
-/// audit: 1, 11 and 12 of reading, 1 and 4 of writing.
+/// audit: 1, 11, 12 and 14 of reading, 1 and 4 of writing.
 #[test]
 fn text_calls_on_damaged_stores() {
     let store = "T 8 2 3 1 5 2\nQ 0 0 0\nS 1 1 1 0\n";
@@ -654,6 +742,8 @@ fn text_calls_on_damaged_stores() {
         ("10 1 41".to_string(), "10 1 NO 11"),
         ("10 0".to_string(), "10 0 NO 11"),
         (format!("10 {deep}"), "10 66 NO 12"),
+        ("10 4 52 48 57 53".to_string(), "10 4 NO 14"),
+        ("10 6 40 52 48 57 53 41".to_string(), "10 6 NO 14"),
         ("11 2 3 9".to_string(), "11 2 3 9 NO 4\nF 3 1 3 9"),
         ("11 32767 0 9".to_string(), "11 32767 0 9 NO 4\nF 0 0"),
     ] {
@@ -674,6 +764,8 @@ fn text_calls_on_damaged_stores() {
     for (call, shown) in [
         ("10 2 40 41", "10 2"),
         ("10 1 49", "10 1"),
+        ("10 4 52 48 57 52", "10 4"),
+        ("11 36863 5 0", "11 36863 5 0"),
         ("10 3 40 49 41", "10 3"),
         ("11 0 2 0", "11 0 2 0"),
         ("11 1 0 0", "11 1 0 0"),

@@ -5,7 +5,7 @@ mod slow;
 
 use reference::audit::{self, Verdict};
 use reference::call::{Call, Reply};
-use reference::generate::follower::{Follower, Mix};
+use reference::generate::follower::{Follower, Mix, QUESTIONS};
 use reference::generate::rng::Rng;
 use reference::queue::Queue;
 use reference::store::Store;
@@ -33,7 +33,7 @@ fn random_mix(rng: &mut Rng) -> Mix {
 fn any_word(rng: &mut Rng, cells: u16) -> u16 {
     match rng.below(8) {
         0 => 0,
-        1 => rng.pick(&[cells + 1, 32_767, 32_768, 65_535]),
+        1 => rng.pick(&[cells + 1, 32_767, 32_768, 36_862, 36_863, 65_535]),
         2 => rng.word(),
         _ => rng.within(1, cells),
     }
@@ -74,9 +74,9 @@ fn any_scratch(rng: &mut Rng, cells: u16) -> Vec<u16> {
     (0..length).map(|_| rng.word()).collect()
 }
 
-/// How many calls were accepted (0), refused by each question (1 to 10), idle
-/// (11), and reads of nil with a slot empty (12) and with a full queue (13).
-type Replies = [usize; 14];
+/// How many calls were accepted (0), refused by each question (1 to 10 and 14),
+/// idle (11), and reads of nil with a slot empty (12) and with a full queue (13).
+type Replies = [usize; 15];
 const NIL_READ: usize = 12;
 const NIL_READ_WHEN_FULL: usize = 13;
 
@@ -133,6 +133,8 @@ impl List {
         let mut work = vec![7; after.table[0] as usize];
         let verdict = audit::audit(&after.table, &after.queue, &mut work);
         assert_eq!(verdict, Ok(Verdict::Sound));
+        // A5: from fresh no clipped reading gets into a cell.
+        assert!(!slow::contains_clipped(after), "{call:?}");
         self.replies[match reply {
             Reply::Refused(refusal) => refusal as usize,
             Reply::Idle => 11,
@@ -147,7 +149,7 @@ impl List {
         let call = match rng.below(6) {
             0 => any_call(rng, cells),
             1 => {
-                let question = 3 + rng.below(7);
+                let question = rng.pick(&QUESTIONS);
                 match self.follower.refused_call(rng, question) {
                     Some(call) => call,
                     None => self.follower.lively_call(rng, self.mix),
@@ -192,13 +194,14 @@ fn assert_nil_was_read(replies: Replies) {
 
 #[test]
 fn tiny_stores() {
-    assert_nil_was_read(run_lists(1, 3, 200, 20_000));
+    // With this seed the queue fills up, which is rare with so few cells.
+    assert_nil_was_read(run_lists(18, 3, 200, 20_000));
 }
 
 #[test]
 fn small_stores() {
     let replies = run_lists(2, 12, 400, 40_000);
-    for question in [1, 2, 3, 4, 5, 6, 7, 8, 9] {
+    for question in [1, 2, 3, 4, 5, 6, 7, 8, 9, 14] {
         assert!(replies[question] > 0, "no refusal {question}");
     }
     assert_nil_was_read(replies);
@@ -221,7 +224,7 @@ fn chosen_refusals_are_refused() {
         for _ in 0..100 {
             let call = follower.lively_call(&mut rng, mix);
             follower.perform(call);
-            let question = 3 + rng.below(7);
+            let question = rng.pick(&QUESTIONS);
             if let Some(call) = follower.refused_call(&mut rng, question) {
                 let reply = follower.perform(call);
                 let by = match reply {
@@ -247,7 +250,7 @@ fn millions_of_calls() {
         let replies = run_lists(seed + i as u64, cells, length, calls / share);
         println!(
             "up to {cells} cells: accepted, refused 1 to 10, idle, nil read, nil read \
-             with a full queue: {replies:?}"
+             with a full queue, refused 14: {replies:?}"
         );
         for (sum, number) in total.iter_mut().zip(replies) {
             *sum += number;

@@ -32,6 +32,9 @@ fn lines_worked_out_by_hand() {
         assert_eq!(output(input.as_bytes()), expected, "{input:?}");
     }
     assert_eq!(output(b"\xff\n(1\xff)"), "NO 11\nNO 11\n");
+    let clipped = b"4094\n4095\n(4094)\n(4095)\n(1 . 32767)\n32768\n(2 4094)";
+    let expected = "4094\nNO 14\n(4094)\nNO 14\nNO 14\nNO 11\n(2 4094)\n";
+    assert_eq!(output(clipped), expected);
     let line = |n: usize| format!("({})\n", vec!["1"; n].join(" "));
     assert_eq!(output(line(64).as_bytes()), line(64));
     assert_eq!(output(line(65).as_bytes()), "NO 7\n");
@@ -93,8 +96,15 @@ fn stored_lines() {
     assert!(stored.lines().count() >= 3_000);
     assert_eq!(output(&input), stored);
     assert_eq!(plain(&input), stored);
-    for answer in ["NO 7", "NO 11", "NO 12"] {
+    for answer in ["NO 7", "NO 11", "NO 12", "NO 14"] {
         assert!(stored.lines().filter(|&line| line == answer).count() >= 10);
+    }
+    // Most lines that are within the notation are accepted.
+    let refused = |number: &str| stored.lines().filter(|&line| line == number).count();
+    let within = stored.lines().count() - refused("NO 11");
+    assert!(10 * refused("NO 14") < 3 * within, "{}", refused("NO 14"));
+    for border in ["4094", "(4094)", "(1 . 4094)"] {
+        assert!(stored.lines().any(|line| line == border), "{border}");
     }
     for byte in [0, 13, 255] {
         assert!(input.contains(&byte));

@@ -71,7 +71,7 @@ fn sessions_reach_the_refusals() {
     for (style, cells) in [("refusals", 3), ("full", 65), ("lively", 64), ("mixed", 63)] {
         outputs += &output_of(&session(style, 2, cells, 5_000));
     }
-    for question in [1, 3, 4, 5, 6, 7, 8, 9, 10] {
+    for question in [1, 3, 4, 5, 6, 7, 8, 9, 10, 14] {
         let reply = format!(" NO {question}\n");
         assert!(outputs.contains(&reply), "no refusal {question}");
     }

@@ -13,9 +13,9 @@ use reference::store::Store;
 use reference::table::*;
 use reference::text_call::TextCall;
 
-/// How many calls were accepted (0) or refused (1 to 13), of reading, of
+/// How many calls were accepted (0) or refused (1 to 14), of reading, of
 /// writing, and of all others.
-type Replies = [[usize; 14]; 3];
+type Replies = [[usize; 15]; 3];
 
 struct Run {
     follower: Follower,
@@ -73,6 +73,8 @@ impl Run {
         let mut work = vec![7; store.table[0] as usize];
         let verdict = audit::audit(&store.table, &store.queue, &mut work);
         assert_eq!(verdict, Ok(Verdict::Sound));
+        // A5: from fresh no clipped reading gets into a cell.
+        assert!(!slow::contains_clipped(store), "{store:?}");
     }
 }
 
@@ -128,10 +130,12 @@ fn facts_hold_with_text_among_the_calls() {
         run(&mut rng, 70, 400, &mut replies);
     }
     println!("{replies:?}");
-    for number in [0, 7, 8, 11, 12] {
+    for number in [0, 7, 8, 11, 12, 14] {
         assert!(replies[0][number] > 10, "read {number}: {replies:?}");
     }
     for number in [0, 4, 6, 12, 13] {
         assert!(replies[1][number] > 10, "written {number}: {replies:?}");
     }
+    assert_eq!(replies[1][14], 0, "{replies:?}");
+    assert!(replies[2][14] > 10, "{replies:?}");
 }

@@ -10,19 +10,19 @@ use Rattle.machine.specs.declared.Queue.{Queue}
 use Rattle.machine.specs.declared.RowCall as declared
 use Rattle.machine.specs.declared.Asked.{Asked}
 use Rattle.machine.specs.Range.{everyOf}
-use Rattle.machine.specs.Words.{isNil, isCell, isLegal, ceiling}
+use Rattle.machine.specs.Words.{isNil, isCell, isAtom, isLegal, mayBeStored, ceiling}
 use Rattle.machine.specs.Table.{capacity, firstFree}
 use Rattle.machine.specs.Queue.{Packet, waiting}
 use Rattle.machine.specs.Packets.{root, cell, kindOf}
 use Rattle.machine.specs.Facts.{Shape}
 use Rattle.machine.specs.Calls.{RowCall, car, cdr, cons, setLeft, setRight, up, down, row, store, packetOf, readsNil}
-use Rattle.machine.specs.Questions.{Question, ask, firstNo, refusedBy, inRange, numberInRange, wordsLegal, xIsCell, heldEnough, slotEmpty, askRead, earlyRow, early}
+use Rattle.machine.specs.Questions.{Question, ask, firstNo, refusedBy, inRange, numberInRange, wordsLegal, xIsCell, wordsStorable, heldEnough, slotEmpty, askRead, earlyRow, early}
 use Rattle.machine.specs.Answers.{askedNumber, callOf}
 use Rattle.machine.proofs.Range.{and-first}
 use Rattle.machine.proofs.Lists.{and-true}
 use Rattle.machine.proofs.NilReads.{read-cell}
 use Rattle.machine.proofs.Questions.{Numbered, AllYes, firstNo-append, firstNo-none, firstNo-all, early-numbered, shape-is}
-use Rattle.calls.specs.Early.{wordsNumber, firstOf, cellNumber}
+use Rattle.calls.specs.Early.{wordsNumber, firstOf, cellNumber, storedNumber}
 use Rattle.calls.specs.Packets.{Operands}
 use Rattle.calls.specs.Writes.{Writable}
 use Rattle.calls.specs.Tests.{raisedWithin, freeByEnd, codeLate, codeLateRow, codeQuestions}
@@ -46,18 +46,19 @@ first-both : (a b : ℕ) → firstOf a b ≡ 0 → (a ≡ 0) × (b ≡ 0)
 first-both zero b h = (refl, h)
 first-both (suc a) b h = absurd (omega arith)
 
--- the early chains
-one-cell : (a b c : Bool) → refusedBy a 1 (refusedBy b 4 (refusedBy c 5 0)) ≡ firstOf (refusedBy a 1 (refusedBy b 4 0)) (refusedBy c 5 0)
-one-cell true true c = refl
-one-cell true false c = refl
-one-cell false b c = refl
+-- the early chains: one question behind 1, 3 and 4, and two
+one-more : (a n b : Bool) (m : ℕ) → refusedBy a 1 (refusedBy n 3 (refusedBy b 4 m)) ≡ firstOf (refusedBy a 1 (refusedBy n 3 (refusedBy b 4 0))) m
+one-more true true true m = refl
+one-more true true false m = refl
+one-more true false b m = refl
+one-more false n b m = refl
 
-number-cell : (a n b c : Bool)
-    → refusedBy a 1 (refusedBy n 3 (refusedBy b 4 (refusedBy c 5 0))) ≡ firstOf (refusedBy a 1 (refusedBy n 3 (refusedBy b 4 0))) (refusedBy c 5 0)
-number-cell true true true c = refl
-number-cell true true false c = refl
-number-cell true false b c = refl
-number-cell false n b c = refl
+two-more : (a b c : Bool) (m : ℕ)
+    → refusedBy a 1 (refusedBy b 4 (refusedBy c 5 m)) ≡ firstOf (firstOf (refusedBy a 1 (refusedBy b 4 0)) (refusedBy c 5 0)) m
+two-more true true true m = refl
+two-more true true false m = refl
+two-more true false c m = refl
+two-more false b c m = refl
 
 number-some : (n : ℕ) → numberInRange n ≡ true → 1 ≤ n
 unfolding numberInRange
@@ -70,13 +71,13 @@ third-yes true true false n h = absurd (omega arith)
 third-yes true false c n h = absurd (omega arith)
 third-yes false b c n h = absurd (omega arith)
 
--- the number of each call's first "no" among questions 1 to 5, as the code finds it
+-- the number of each call's first "no" among the early questions, as the code finds it
 abbrev pub earlyNumber : List ℕ → Queue → RowCall → ℕ
 earlyNumber t q (car x) = cellNumber t q 1 x 0
 earlyNumber t q (cdr x) = cellNumber t q 1 x 0
-earlyNumber t q (cons x y) = wordsNumber t q 1 x y
-earlyNumber t q (setLeft x y) = cellNumber t q 1 x y
-earlyNumber t q (setRight x y) = cellNumber t q 1 x y
+earlyNumber t q (cons x y) = firstOf (wordsNumber t q 1 x y) (storedNumber x y)
+earlyNumber t q (setLeft x y) = firstOf (cellNumber t q 1 x y) (storedNumber 0 y)
+earlyNumber t q (setRight x y) = firstOf (cellNumber t q 1 x y) (storedNumber 0 y)
 earlyNumber t q (up x n) = cellNumber t q n x 0
 earlyNumber t q (down x n) = cellNumber t q n x 0
 
@@ -84,20 +85,28 @@ module _ (t : List ℕ) (q : Queue) where
   read-number : (x : ℕ) → isNil x ≡ false → cellNumber t q 1 x 0 ≡ firstNo (ask 1 (inRange t q) ∷ ask 4 (wordsLegal t (x ∷ [])) ∷ askRead t x)
   unfolding firstNo wordsLegal xIsCell everyOf cellNumber wordsNumber numberInRange isLegal isNil
   read-number x n =
-      sym (one-cell (inRange t q) (isLegal (capacity t) x && true) (isCell (capacity t) x))
+      sym (one-more (inRange t q) true (isLegal (capacity t) x && true) (refusedBy (isCell (capacity t) x) 5 0))
       ∙ ap (λ (b : Bool). firstNo (ask 1 (inRange t q) ∷ ask 4 (wordsLegal t (x ∷ [])) ∷ cond b [] (ask 5 (xIsCell t x) ∷ []))) (sym n)
 
+  replace-number : (x y : ℕ)
+      → firstOf (cellNumber t q 1 x y) (storedNumber 0 y)
+      ≡ firstNo (ask 1 (inRange t q) ∷ ask 4 (wordsLegal t (x ∷ y ∷ [])) ∷ ask 5 (xIsCell t x) ∷ ask 14 (wordsStorable (y ∷ [])) ∷ [])
+  unfolding firstNo wordsLegal xIsCell wordsStorable everyOf cellNumber wordsNumber storedNumber numberInRange mayBeStored isAtom
+  replace-number x y =
+      rw (and-true (isLegal (capacity t) y), and-true (mayBeStored y))
+      (sym (two-more (inRange t q) (isLegal (capacity t) x && isLegal (capacity t) y) (isCell (capacity t) x) (storedNumber 0 y)))
+
   pub early-number : (r : RowCall) → readsNil r ≡ false → earlyNumber t q r ≡ firstNo (early (store t q []) (row r))
-  unfolding firstNo early earlyRow wordsLegal xIsCell everyOf readsNil cellNumber wordsNumber numberInRange isLegal isNil
+  unfolding firstNo early earlyRow wordsLegal xIsCell wordsStorable everyOf readsNil cellNumber wordsNumber storedNumber numberInRange mayBeStored isLegal isNil isAtom
   early-number (car x) n = read-number x n
   early-number (cdr x) n = read-number x n
-  early-number (cons x y) n = rw (and-true (isLegal (capacity t) y))
-  early-number (setLeft x y) n =
-      rw (and-true (isLegal (capacity t) y)) (sym (one-cell (inRange t q) (isLegal (capacity t) x && isLegal (capacity t) y) (isCell (capacity t) x)))
-  early-number (setRight x y) n =
-      rw (and-true (isLegal (capacity t) y)) (sym (one-cell (inRange t q) (isLegal (capacity t) x && isLegal (capacity t) y) (isCell (capacity t) x)))
-  early-number (up x m) n = sym (number-cell (inRange t q) (numberInRange m) (isLegal (capacity t) x && true) (isCell (capacity t) x))
-  early-number (down x m) n = sym (number-cell (inRange t q) (numberInRange m) (isLegal (capacity t) x && true) (isCell (capacity t) x))
+  early-number (cons x y) n =
+      rw (and-true (isLegal (capacity t) y), and-true (mayBeStored y))
+      (sym (one-more (inRange t q) true (isLegal (capacity t) x && isLegal (capacity t) y) (storedNumber x y)))
+  early-number (setLeft x y) n = replace-number x y
+  early-number (setRight x y) n = replace-number x y
+  early-number (up x m) n = sym (one-more (inRange t q) (numberInRange m) (isLegal (capacity t) x && true) (refusedBy (isCell (capacity t) x) 5 0))
+  early-number (down x m) n = sym (one-more (inRange t q) (numberInRange m) (isLegal (capacity t) x && true) (refusedBy (isCell (capacity t) x) 5 0))
 
   -- of the call as the code's enum has it, once its variant is known
   pub early-of : (asked : Asked) (call r : declared.RowCall) → readsNil (callOf call) ≡ false → call ≡ r → askedNumber asked ≡ earlyNumber t q (callOf r)

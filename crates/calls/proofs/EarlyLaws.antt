@@ -1,4 +1,4 @@
--- Questions 1 to 5 as chains of numbers: which number each "no" gives, what follows where there is none, and that the chains are the machine's lists.
+-- The early questions as chains of numbers: which number each "no" gives, what follows where there is none, and that the chains are the machine's lists.
 use mathlib.Core.Path.{_≡_, refl, sym, ap, _∙_}
 use mathlib.Core.Logic.{⊎-elim}
 use mathlib.Core.Bool.{Bool, true, false, not}
@@ -7,7 +7,7 @@ use Prim.Native.Nat.{ℕ, zero, suc, _-_}
 use native.Mathlib.Omega.{arith}
 use borrow.Author.Tests.{not-true, not-false}
 use Rattle.machine.specs.declared.Queue.{Queue}
-use Rattle.machine.specs.Words.{isCell, isLegal}
+use Rattle.machine.specs.Words.{isCell, isLegal, mayBeStored}
 use Rattle.machine.specs.Table.{capacity}
 use Rattle.machine.specs.Questions.{refusedBy, inRange, numberInRange}
 use Rattle.machine.proofs.Range.{tested}
@@ -18,7 +18,7 @@ use Rattle.machine.specs.declared.Refusal.{Refusal}
 use Rattle.machine.specs.Answers.{askedNumber}
 use Rattle.machine.proofs.Answers.{refusal-some, asked-no, asked-yes}
 use Rattle.machine.proofs.Questions.{shape-is}
-use Rattle.calls.specs.Early.{wordsNumber, firstOf, cellNumber}
+use Rattle.calls.specs.Early.{wordsNumber, firstOf, cellNumber, storedNumber}
 
 first-some : (a b : ℕ) → (a ≡ 0 → ⊥) → firstOf a b ≡ a
 first-some zero b h = absurd (h refl)
@@ -63,12 +63,20 @@ module _ (t : List ℕ) (q : Queue) (n x y : ℕ) where
   pub words-shape : wordsNumber t q n x y ≡ 0 → Shape t q
   words-shape h = ⊎-elim (λ e. shape-is t q e) (λ e. absurd (omega (arith, words-1 e))) (tested (inRange t q))
 
+-- those before say "yes"
+pub none-before : (a m n : ℕ) → a ≡ 0 → n ≡ m → n ≡ firstOf a m
+none-before a m n z h = h ∙ sym (ap (λ (i : ℕ). firstOf i m) z)
+
 -- an early "no" is the call's, and else the late answer is
 pub early-first : (total a b : ℕ) (r : Asked) (f : Refusal) → total ≡ firstOf a b → askedNumber r ≡ a → r ≡ Asked.No f → askedNumber r ≡ total
 early-first total a b r f e h d = h ∙ sym (first-some a b (λ z. omega (arith, refusal-some f, asked-no h d ∙ z))) ∙ sym e
 
 pub late-first : (total a b : ℕ) (r : Asked) → total ≡ firstOf a b → a ≡ 0 → askedNumber r ≡ b → askedNumber r ≡ total
-late-first total a b r e z h = h ∙ sym (e ∙ ap (λ (i : ℕ). firstOf i b) z)
+late-first total a b r e z h = none-before a b (askedNumber r) z h ∙ sym e
+
+-- question 14 behind the number that those before it gave
+pub stored-behind : (n a b m : ℕ) → n ≡ firstOf a m → a ≡ b → n ≡ firstOf b m
+stored-behind n a b m e h = e ∙ ap (λ (i : ℕ). firstOf i m) h
 
 pub words-first : (t : List ℕ) (q : Queue) (n x y : ℕ) (r : Asked) (f : Refusal) → askedNumber r ≡ wordsNumber t q n x y → r ≡ Asked.No f
     → askedNumber r ≡ cellNumber t q n x y
@@ -86,3 +94,16 @@ module _ (t : List ℕ) (q : Queue) (n x y : ℕ) (r : Asked) (yes : r ≡ Asked
   pub cell-5 : askedNumber r ≡ wordsNumber t q n x y → isCell (capacity t) x ≡ false → 5 ≡ cellNumber t q n x y
   unfolding cellNumber
   cell-5 h e = rw (← (asked-yes h yes), e)
+
+module _ (x y : ℕ) where
+  pub stored-x : mayBeStored x ≡ false → 14 ≡ storedNumber x y
+  unfolding storedNumber
+  stored-x a = rw a
+
+  pub stored-y : mayBeStored x ≡ true → mayBeStored y ≡ false → 14 ≡ storedNumber x y
+  unfolding storedNumber
+  stored-y a b = rw (a, b)
+
+  pub stored-0 : mayBeStored x ≡ true → mayBeStored y ≡ true → 0 ≡ storedNumber x y
+  unfolding storedNumber
+  stored-0 a b = rw (a, b)

@@ -17,7 +17,7 @@ use Rattle.machine.specs.Machine.{answered, machine}
 use Rattle.machine.specs.Answers.{rowReply, freshReply}
 use Rattle.calls.specs.Tests.{codeQuestions}
 
--- questions 1 to 5 say "yes" of the call r, which is no read of nil, and p is its packet
+-- the early questions say "yes" of the call r, which is no read of nil, and p is its packet
 pub record EarlyYes (t : List ℕ) (q : Queue) (r : RowCall) (p : Packet) : Type 0 where
   pub queues : readsNil r ≡ false
   pub early : firstNo (early (store t q []) (row r)) ≡ 0
@@ -37,7 +37,7 @@ pub record RowAsked (t : List ℕ) (q : Queue) (r : RowCall) (a : RowAnswer) (q�
   pub reply : rowReply a ≡ outcomeOf t q r .reply
   pub queue : q′ ≡ outcomeOf t q r .after .queue
 
--- which is so of every call of the packet p that questions 1 to 5 have passed
+-- which is so of every call of the packet p that the early questions have passed
 abbrev pub Queued : List ℕ → Queue → Packet → RowAnswer → Queue → Type 0
 Queued t q p a q′ = (r : RowCall) → EarlyYes t q r p → RowAsked t q r a q′
 

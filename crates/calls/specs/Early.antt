@@ -1,11 +1,11 @@
--- Questions 1 to 5 as one chain of numbers.
+-- Questions 1 to 5 and 14 as one chain of numbers.
 use mathlib.Core.Path.{_≡_}
 use mathlib.Core.Logic.{_⊎_}
 use mathlib.Core.Bool.{_&&_}
 use mathlib.Core.List.{List}
 use Prim.Native.Nat.{ℕ}
 use Rattle.machine.specs.declared.Queue.{Queue}
-use Rattle.machine.specs.Words.{isCell, isLegal}
+use Rattle.machine.specs.Words.{isCell, isLegal, mayBeStored}
 use Rattle.machine.specs.Table.{capacity}
 use Rattle.machine.specs.Questions.{refusedBy, inRange, numberInRange}
 
@@ -22,6 +22,10 @@ firstOf (ℕ.suc n) m = ℕ.suc n
 -- and question 5
 unfoldable pub cellNumber : List ℕ → Queue → ℕ → ℕ → ℕ → ℕ
 cellNumber t q n x y = firstOf (wordsNumber t q n x y) (refusedBy (isCell (capacity t) x) 5 0)
+
+-- question 14 of two words
+unfoldable pub storedNumber : ℕ → ℕ → ℕ
+storedNumber x y = refusedBy (mayBeStored x && mayBeStored y) 14 0
 
 -- a replace's kinds
 abbrev pub Replaces : ℕ → Type 0

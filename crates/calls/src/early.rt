@@ -1,4 +1,4 @@
-// Questions 1 to 5, which have an answer on every store and look at no packet.
+// Questions 1 to 5 and 14, which have an answer on every store and look at no packet.
 use machine::Asked;
 use machine::Refusal;
 use machine::RowCall;
@@ -10,7 +10,7 @@ ghost use Rattle.machine.specs.Queue.{placed};
 ghost use Rattle.machine.specs.Calls.{row, store, readsNil};
 ghost use Rattle.machine.specs.Questions.{firstNo, early};
 ghost use Rattle.machine.specs.Answers.{askedNumber, callOf};
-ghost use Rattle.calls.specs.Early.{wordsNumber, cellNumber};
+ghost use Rattle.calls.specs.Early.{wordsNumber, firstOf, cellNumber, storedNumber};
 
 // Questions 1, 3 and 4 of a call with the number n and the words x and y; a call without a number has 1 for n, one without y has nil.
 fn words_asked(table: &[u16], place: u16, count: u16, n: u16, x: u16, y: u16) -> Asked
@@ -46,6 +46,22 @@ fn cell_asked(table: &[u16], place: u16, count: u16, n: u16, x: u16, y: u16) -> 
     Asked::No(Refusal::NotACell)
 }
 
+// And question 14, behind what those before it said: x and y are the words put into a cell; a call that puts in one has nil for x.
+fn stored_asked(before: Asked, x: u16, y: u16) -> Asked
+    ensures { λ r. ⌜ askedNumber r ≡ firstOf (askedNumber before) (storedNumber x y) ⌝ }
+{
+    if let Asked::No(_) = before {
+        return before;
+    }
+    if !questions::may_be_stored(x) {
+        return Asked::No(Refusal::ClippedReading);
+    }
+    if !questions::may_be_stored(y) {
+        return Asked::No(Refusal::ClippedReading);
+    }
+    Asked::Yes
+}
+
 // Of any call but a read of nil.
 pub fn early_asked(table: &[u16], place: u16, count: u16, call: RowCall) -> Asked
     requires { ⌜ readsNil (callOf call) ≡ false ⌝ }
@@ -54,9 +70,9 @@ pub fn early_asked(table: &[u16], place: u16, count: u16, call: RowCall) -> Aske
     match call {
         RowCall::Car(x) => cell_asked(table, place, count, 1, x, 0),
         RowCall::Cdr(x) => cell_asked(table, place, count, 1, x, 0),
-        RowCall::Cons(x, y) => words_asked(table, place, count, 1, x, y),
-        RowCall::SetLeft(x, y) => cell_asked(table, place, count, 1, x, y),
-        RowCall::SetRight(x, y) => cell_asked(table, place, count, 1, x, y),
+        RowCall::Cons(x, y) => stored_asked(words_asked(table, place, count, 1, x, y), x, y),
+        RowCall::SetLeft(x, y) => stored_asked(cell_asked(table, place, count, 1, x, y), 0, y),
+        RowCall::SetRight(x, y) => stored_asked(cell_asked(table, place, count, 1, x, y), 0, y),
         RowCall::Up(x, n) => cell_asked(table, place, count, n, x, 0),
         RowCall::Down(x, n) => cell_asked(table, place, count, n, x, 0),
     }

@@ -1,4 +1,4 @@
-// Questions 6 to 10 as the code asks them of the call behind a packet, once questions 1 to 5 have said "yes".
+// Questions 6 to 10 as the code asks them of the call behind a packet, once the early ones have said "yes".
 use crate::operands::tally_of;
 use crate::tests::cons_tests;
 use crate::tests::down_tests;

@@ -1,6 +1,6 @@
 // Fresh and the seven row calls, for any table, queue and numbers. Every row call but a read of nil goes the same way: its questions are asked, its packet
-// joins the queue, and it writes into the table only if no question says "no". Questions 1 to 5 look at no packet, so a call that one of them refuses hands
-// the queue back as it came; the others are asked of the queue that the packet is to join, so that it is copied once for both.
+// joins the queue, and it writes into the table only if no question says "no". The early questions, 1 to 5 and 14, look at no packet, so a call that one of
+// them refuses hands the queue back as it came; the others are asked of the queue that the packet is to join, so that it is copied once for both.
 mod chain;
 mod early;
 mod late;
@@ -85,7 +85,7 @@ fn answer_of(asked: Asked, value: u16) -> RowAnswer
     }
 }
 
-// Once questions 1 to 5 have said "yes": the others are asked, and the packet joins the queue.
+// Once the early questions have said "yes": the others are asked, and the packet joins the queue.
 fn queued(table: &[u16], queue: Queue, packet: Packet) -> RowReply
     requires { ⌜ Shape (now table) queue × Operands (now table) (packetOf packet) ⌝ }
     ensures { λ r. ⌜ Queued (now (table .entry)) queue (packetOf packet) (r .answer) (r .queue) ⌝ }

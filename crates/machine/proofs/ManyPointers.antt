@@ -8,14 +8,14 @@ use native.Mathlib.Omega.{arith}
 use lib.Dec.{leb, eqb}
 use borrow.Author.Tests.{le-leb, lt-leb}
 use Rattle.machine.specs.Range.{everyOf, matching}
-use Rattle.machine.specs.Words.{isNil, isLegal, ceiling}
+use Rattle.machine.specs.Words.{isNil, isAtom, isLegal, mayBeStored, ceiling}
 use Rattle.machine.specs.Table.{left, right, rootCount, capacity, position, wordAt, putWord}
 use Rattle.machine.specs.Queue.{Packet, packet, emptyQueue, slot, putSlot, appended, waiting, packetsFrom}
 use Rattle.machine.specs.Packets.{replaces, kindOf, root, plus, minus, changesOf, changes, usesOf, uses, movedBy, waitingChange}
 use Rattle.machine.specs.Counts.{heldAtLeast, heldAtMost, pointers}
 use Rattle.machine.specs.Calls.{row, setLeft, setRight, value, Store, store, field, packetOf, readsNil, written, valueOf}
 use Rattle.machine.specs.Step.{outcome}
-use Rattle.machine.specs.Questions.{firstNo, inRange, wordsLegal, xIsCell, heldEnough, slotEmpty, heldWithin, pointersWithin, earlyRow, early, askFree, lateRow, late, questions}
+use Rattle.machine.specs.Questions.{firstNo, inRange, wordsLegal, xIsCell, wordsStorable, heldEnough, slotEmpty, heldWithin, pointersWithin, earlyRow, early, askFree, lateRow, late, questions}
 use Rattle.machine.specs.Audit.{Sound}
 use Rattle.machine.specs.Machine.{accepted}
 use Rattle.machine.specs.WrongAnswers.{noes, refuses, gives, Only, AllOnly, crowded, pointer-entries}
@@ -117,6 +117,10 @@ module _ (n holds : ℕ) (some : 1 ≤ holds) (few : holds ≤ ceiling) (fits : 
   unfolding xIsCell
   is-cell = one-is-cell n 0 holds (omega arith) some few
 
+  storable : wordsStorable (1 ∷ []) ≡ true
+  unfolding wordsStorable everyOf mayBeStored isAtom
+  storable = refl
+
   packet-right : packetOf u (setRight 1 1) ≡ replace 6 0
   unfolding packetOf field
   packet-right = rw (first-is n 0 holds .holds-word)
@@ -143,6 +147,7 @@ module _ (n holds : ℕ) (some : 1 ≤ holds) (few : holds ≤ ceiling) (fits : 
           in-range,
           legal,
           is-cell,
+          storable,
           packet-left,
           waiting-none,
           waiting-one (replace 3 1),
@@ -164,7 +169,7 @@ module _ (n holds : ℕ) (some : 1 ≤ holds) (few : holds ≤ ceiling) (fits : 
       noes-are : (b : Bool) → heldEnough u [] (replace 6 0) ≡ b → noes (questions lent (row (setRight 1 1))) ≡ cond b (10 ∷ []) (6 ∷ 10 ∷ [])
       unfolding noes questions early earlyRow late lateRow readsNil askFree slotEmpty
       noes-are b h =
-          rw (in-range, legal, is-cell, packet-right, waiting-none, waiting-one (replace 6 0), written-right n holds, h, held-few 6 right right-kind 0 1 (omega arith), over tight)
+          rw (in-range, legal, is-cell, storable, packet-right, waiting-none, waiting-one (replace 6 0), written-right n holds, h, held-few 6 right right-kind 0 1 (omega arith), over tight)
 
       only-ten : 2 ≤ holds → Only (refuses lent (row (setRight 1 1)) 10 [])
       only-ten h = let e = noes-are true (enough 6 right right-kind 0 h) in (e, only-first lent (row (setRight 1 1)) 9 [] (inl crowded-sound) e)

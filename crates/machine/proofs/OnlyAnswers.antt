@@ -32,7 +32,7 @@ isDecided s audit = true
 isDecided s (read text) = eqb (textPairs text) 0 || isSound s
 isDecided s (write w room) = not (isCell (capacity (s .table)) w) || isSound s
 
--- one of questions 1 to 5 says "no", or the papers decide
+-- one of the early questions says "no", or the papers decide
 unfoldable pub isSettled : Store → Call → Bool
 isSettled s call = ltb 0 (firstNo (early s call)) || isDecided s call
 

@@ -95,14 +95,14 @@ unfolding early earlyRow
 early-numbered s (fresh c) = (omega arith, (omega arith, tt))
 early-numbered s (row (car x)) = (omega arith, (omega arith, numbered-unless (isNil x) (ask 5 (xIsCell (s .table) x)) (omega arith)))
 early-numbered s (row (cdr x)) = (omega arith, (omega arith, numbered-unless (isNil x) (ask 5 (xIsCell (s .table) x)) (omega arith)))
-early-numbered s (row (cons x y)) = (omega arith, (omega arith, tt))
-early-numbered s (row (setLeft x y)) = (omega arith, (omega arith, (omega arith, tt)))
-early-numbered s (row (setRight x y)) = (omega arith, (omega arith, (omega arith, tt)))
+early-numbered s (row (cons x y)) = (omega arith, (omega arith, (omega arith, tt)))
+early-numbered s (row (setLeft x y)) = (omega arith, (omega arith, (omega arith, (omega arith, tt))))
+early-numbered s (row (setRight x y)) = (omega arith, (omega arith, (omega arith, (omega arith, tt))))
 early-numbered s (row (up x n)) = (omega arith, (omega arith, (omega arith, (omega arith, tt))))
 early-numbered s (row (down x n)) = (omega arith, (omega arith, (omega arith, (omega arith, tt))))
 early-numbered s step = (omega arith, (omega arith, tt))
 early-numbered s audit = (omega arith, (omega arith, tt))
-early-numbered s (read text) = (omega arith, (omega arith, (omega arith, tt)))
+early-numbered s (read text) = (omega arith, (omega arith, (omega arith, (omega arith, tt))))
 early-numbered s (write w room) = (omega arith, (omega arith, tt))
 
 -- question 1 as plain facts

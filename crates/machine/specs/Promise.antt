@@ -59,7 +59,7 @@ unfoldable pub numbers : List Question → List ℕ
 numbers ks = map (λ (k : Question). k .number) ks
 
 pub record Promise (s : Store) (call : Call) (r : Reply) (s′ : Store) : Type 0 where
-  -- questions 1 to 5, and 11 and 12 of a text read, are answered as written on any store: the first "no" gives its number, and nothing lent changes
+  -- questions 1 to 5 and 14, and 11 and 12 of a text read, are answered as written on any store: the first "no" gives its number, and nothing lent changes
   pub asked : (n : ℕ) → firstNo (early s call) ≡ suc n → (r ≡ refused (suc n)) × (s′ ≡ s)
   -- where none of them says "no", a refusal carries one of the call's later numbers, and nothing lent changes
   pub refusal : (n : ℕ) → firstNo (early s call) ≡ 0 → r ≡ refused n → (contains (numbers (late s call)) n ≡ true) × (s′ ≡ s)

@@ -10,14 +10,14 @@ use Rattle.notation.specs.Parse.{parse, isTree, meaning}
 use Rattle.notation.specs.Brackets.{tooDeep, firstMet}
 use Rattle.machine.specs.declared.Queue.{Queue}
 use Rattle.machine.specs.Range.{every, exists, select, everyOf}
-use Rattle.machine.specs.Words.{isNil, isCell, isLegal, ceiling, mostCells}
+use Rattle.machine.specs.Words.{isNil, isCell, isLegal, mayBeStored, ceiling, mostCells}
 use Rattle.machine.specs.Table.{capacity, firstFree, lastFree, tableLength, scratchWords, isFree}
 use Rattle.machine.specs.Queue.{Packet, slots, appended, waiting}
 use Rattle.machine.specs.Packets.{uses}
 use Rattle.machine.specs.Counts.{heldAtLeast, heldAtMost, pointers}
 use Rattle.machine.specs.Calls.{RowCall, car, cdr, cons, setLeft, setRight, up, down}
 use Rattle.machine.specs.Calls.{Call, fresh, row, step, audit, read, write, Store, packetOf, readsNil, written}
-use Rattle.machine.specs.Texts.{textFor}
+use Rattle.machine.specs.Texts.{atomsStorable, textFor}
 
 -- a question's number, and its answer
 pub record Question : Type 0 where
@@ -123,17 +123,26 @@ wordHeld t ps w = cond (isCell (capacity t) w) (heldAtLeast t ps (pred w) 1) tru
 unfoldable pub met : ℕ → List ℕ → ℕ → ℕ
 met room t w = firstMet room 0 (textFor room t w)
 
+-- 14. each word put into a cell is no atom, or an atom of a value below 4,095
+unfoldable pub wordsStorable : List ℕ → Bool
+wordsStorable ws = everyOf ws mayBeStored
+
+-- 14. of a text read: so is the word of every atom in it
+unfoldable pub textStorable : List ℕ → Bool
+textStorable text = atomsStorable (meaning (parse text))
+
 -- question 5 of a read, from which a read of nil is free: it is asked 1 and 4 only (document 02, A1)
 abbrev pub askRead : List ℕ → ℕ → List Question
 askRead t x = cond (isNil x) [] (ask 5 (xIsCell t x) ∷ [])
 
--- questions 1 to 5, and 11 and 12 of a text read, which have an answer on every store
+-- questions 1 to 5 and 14, and 11 and 12 of a text read, which have an answer on every store: 14 is asked of the words put into a cell, both of a cons
+-- and y of a replace
 unfoldable pub earlyRow : List ℕ → RowCall → List Question
 earlyRow t (car x) = ask 4 (wordsLegal t (x ∷ [])) ∷ askRead t x
 earlyRow t (cdr x) = ask 4 (wordsLegal t (x ∷ [])) ∷ askRead t x
-earlyRow t (cons x y) = ask 4 (wordsLegal t (x ∷ y ∷ [])) ∷ []
-earlyRow t (setLeft x y) = ask 4 (wordsLegal t (x ∷ y ∷ [])) ∷ ask 5 (xIsCell t x) ∷ []
-earlyRow t (setRight x y) = ask 4 (wordsLegal t (x ∷ y ∷ [])) ∷ ask 5 (xIsCell t x) ∷ []
+earlyRow t (cons x y) = ask 4 (wordsLegal t (x ∷ y ∷ [])) ∷ ask 14 (wordsStorable (x ∷ y ∷ [])) ∷ []
+earlyRow t (setLeft x y) = ask 4 (wordsLegal t (x ∷ y ∷ [])) ∷ ask 5 (xIsCell t x) ∷ ask 14 (wordsStorable (y ∷ [])) ∷ []
+earlyRow t (setRight x y) = ask 4 (wordsLegal t (x ∷ y ∷ [])) ∷ ask 5 (xIsCell t x) ∷ ask 14 (wordsStorable (y ∷ [])) ∷ []
 earlyRow t (up x n) = ask 3 (numberInRange n) ∷ ask 4 (wordsLegal t (x ∷ [])) ∷ ask 5 (xIsCell t x) ∷ []
 earlyRow t (down x n) = ask 3 (numberInRange n) ∷ ask 4 (wordsLegal t (x ∷ [])) ∷ ask 5 (xIsCell t x) ∷ []
 
@@ -142,7 +151,8 @@ early s (fresh c) = ask 3 (cellsInRange c) ∷ ask 1 (longEnough c (s .table)) �
 early s (row r) = ask 1 (inRange (s .table) (s .queue)) ∷ earlyRow (s .table) r
 early s step = ask 1 (inRange (s .table) (s .queue)) ∷ ask 2 (scratchEnough (s .table) (s .scratch)) ∷ []
 early s audit = ask 1 (inRange (s .table) (s .queue)) ∷ ask 2 (scratchEnough (s .table) (s .scratch)) ∷ []
-early s (read text) = ask 1 (inRange (s .table) (s .queue)) ∷ ask 11 (inNotation text) ∷ ask 12 (notTooDeep text) ∷ []
+early s (read text) =
+    ask 1 (inRange (s .table) (s .queue)) ∷ ask 11 (inNotation text) ∷ ask 12 (notTooDeep text) ∷ ask 14 (textStorable text) ∷ []
 early s (write w room) = ask 1 (inRange (s .table) (s .queue)) ∷ ask 4 (wordsLegal (s .table) (w ∷ [])) ∷ []
 
 -- question 8 is cons's alone

@@ -1,11 +1,11 @@
 -- Rule text in and out (document 02, A4): the cells that a tree takes, and the tree that a word opens out into.
 use mathlib.Core.Path.{_≡_}
-use mathlib.Core.Bool.{true, false, cond}
+use mathlib.Core.Bool.{Bool, true, false, cond, _&&_}
 use mathlib.Core.List.{List, []}
 use Prim.Native.Nat.{ℕ, zero, suc, _+_, _-_}
 use Rattle.notation.specs.Trees.{Tree, nil, atom, pair}
 use Rattle.notation.specs.Print.{print}
-use Rattle.machine.specs.Words.{isCell, isAtom, firstAtom}
+use Rattle.machine.specs.Words.{isCell, isAtom, firstAtom, mayBeStored}
 use Rattle.machine.specs.Table.{left, right, capacity}
 use Rattle.machine.specs.Calls.{Reply, value, refused, idle, applied, sound, broken, text, Store, field}
 use Rattle.machine.specs.Step.{Outcome}
@@ -40,6 +40,12 @@ buildBy cons s (pair a d) =
     let x = buildBy cons s a in
     let y = buildBy cons (x .after) d in
     builtPair (cons (y .after) (x .word) (y .word))
+
+-- the words of all atoms in a tree may be stored
+unfoldable pub atomsStorable : Tree → Bool
+atomsStorable nil = true
+atomsStorable (atom v) = mayBeStored (firstAtom + v)
+atomsStorable (pair a d) = atomsStorable a && atomsStorable d
 
 -- what a word that is no cell opens out into
 unfoldable pub leaf : ℕ → Tree

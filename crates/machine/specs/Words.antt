@@ -1,7 +1,7 @@
 -- "Words": 0 is nil, 1 to C is a cell, 32,768 to 65,535 is an atom. No other word is legal.
-use mathlib.Core.Bool.{Bool, _&&_, _||_}
-use Prim.Native.Nat.{ℕ}
-use lib.Dec.{leb, eqb}
+use mathlib.Core.Bool.{Bool, not, _&&_, _||_}
+use Prim.Native.Nat.{ℕ, _-_}
+use lib.Dec.{leb, ltb, eqb}
 
 unfoldable pub isNil : ℕ → Bool
 isNil w = eqb w 0
@@ -22,6 +22,14 @@ isAtom w = leb firstAtom w && leb w largestWord
 
 unfoldable pub isLegal : ℕ → ℕ → Bool
 isLegal c w = isNil w || isCell c w || isAtom w
+
+-- the value at which the converter clips its readings (document 02, A5)
+abbrev pub clip : ℕ
+clip = 4095
+
+-- a word that may be stored: no atom, or an atom of a value below it
+unfoldable pub mayBeStored : ℕ → Bool
+mayBeStored w = not (isAtom w) || ltb (w - firstAtom) clip
 
 -- the ceiling of root counts, cell counts, held counts, pointers and n
 abbrev pub ceiling : ℕ

@@ -330,6 +330,59 @@ text-entries =
     ∷ gives busy (write 0 2) (text (ascii "()")) busy
     ∷ []
 
+-- Clipped readings (document 02, A5).
+abbrev pub clipped-entries : List Entry
+clipped-entries =
+    -- an atom of value 4,095 or more put into a cell,
+    refusals 14 [] quiet (row (cons 36863 0) ∷ row (cons 0 36863) ∷ row (cons 1 65535) ∷ [])
+    ++ refusals 14 [] quiet (row (setLeft 1 36863) ∷ row (setRight 1 36863) ∷ row (setRight 1 65535) ∷ [])
+    ++ refusals 14 [] quiet (map read (ascii "4095" ∷ ascii "(4095)" ∷ ascii "(1 . 4095)" ∷ ascii "(32767 . 1)" ∷ []))
+    -- also on a store that passes question 1 and not the audit
+    ++ refusals 14 [] (lent (set held 7 2) emptyQueue) (row (cons 36863 0) ∷ row (setLeft 1 36863) ∷ row (setRight 1 36863) ∷ read (ascii "(4095)") ∷ [])
+
+-- 14 before 1, 4, 5 or 12, or after 6, 7 or 8; or asked of x
+abbrev pub clip-order-entries : List Entry
+clip-order-entries =
+    refuses outside (row (cons 36863 0)) 1 (14 ∷ [])
+    ∷ refuses outside (read (ascii "4095")) 1 (14 ∷ [])
+    ∷ refuses quiet (row (cons 3 36863)) 4 (14 ∷ [])
+    ∷ refuses quiet (row (setLeft 0 36863)) 5 (14 ∷ [])
+    ∷ refuses quiet (row (setRight 32775 36863)) 5 (14 ∷ [])
+    ∷ refuses quiet (read (replicate 33 40 ++ ascii "4095" ++ replicate 33 41)) 12 (14 ∷ 8 ∷ [])
+    ∷ refuses quiet (row (cons 36863 2)) 14 (6 ∷ [])
+    ∷ refuses quiet (row (setLeft 2 36863)) 14 (6 ∷ [])
+    ∷ refuses busy (row (cons 36863 0)) 14 (7 ∷ [])
+    ∷ refuses busy (row (setRight 1 36863)) 14 (7 ∷ [])
+    ∷ refuses busy (read (ascii "(4095)")) 14 (7 ∷ [])
+    ∷ refuses (lent alone emptyQueue) (row (cons 0 36863)) 14 (8 ∷ [])
+    ∷ refuses (lent alone emptyQueue) (read (ascii "(4095)")) 14 (8 ∷ [])
+    ∷ refusals 5 [] quiet (row (setLeft 36863 1) ∷ row (setRight 36863 1) ∷ row (car 36863) ∷ row (cdr 36863) ∷ row (up 36863 1) ∷ row (down 36863 1) ∷ [])
+
+-- one cell that already contains clipped readings, and a free one
+abbrev clipped : List ℕ
+clipped = set (set held 3 36863) 4 65535
+
+abbrev pub unclipped-entries : List Entry
+unclipped-entries =
+    -- an atom of value 4,094 refused, or 14 asked of a number;
+    gives quiet (row (cons 36862 36862)) (value 2)
+    (lent (2 ∷ 0 ∷ 0 ∷ 0 ∷ 32775 ∷ 1 ∷ 0 ∷ 1 ∷ 36862 ∷ 36862 ∷ 1 ∷ 0 ∷ 1 ∷ 77 ∷ []) (only (packet 2 36862 36862 2)))
+    ∷ gives quiet (row (setLeft 1 36862)) (value 0) (lent (set held 3 36862) (only (packet 3 36862 0 1)))
+    ∷ gives quiet (row (setRight 1 36862)) (value 32775) (lent (set held 4 36862) (only (packet 6 36862 32775 1)))
+    ∷ gives quiet (read (ascii "4094")) (value 36862) quiet
+    ∷ gives quiet (read (ascii "(4094)")) (value 2) (lent (2 ∷ 0 ∷ 0 ∷ 0 ∷ 32775 ∷ 1 ∷ 0 ∷ 1 ∷ 36862 ∷ 0 ∷ 1 ∷ 0 ∷ 1 ∷ 77 ∷ []) (only (packet 2 36862 0 2)))
+    ∷ gives (lent ring emptyQueue) (row (down 1 4095)) (value 0) (lent ring (only (packet 5 1 4095 0)))
+    -- a store that already contains such atoms not sound, or another word than its own read, written, detached or freed
+    ∷ gives (lent clipped emptyQueue) audit sound (store clipped emptyQueue (0 ∷ 0 ∷ 9 ∷ []))
+    ∷ gives (lent clipped emptyQueue) (row (car 1)) (value 36863) (lent clipped (only (packet 1 1 36863 0)))
+    ∷ gives (lent clipped emptyQueue) (row (cdr 1)) (value 65535) (lent clipped (only (packet 1 1 65535 0)))
+    ∷ gives (lent clipped emptyQueue) (write 1 14) (text (ascii "(4095 . 32767)")) (lent clipped emptyQueue)
+    ∷ gives quiet (write 36863 4) (text (ascii "4095")) quiet
+    ∷ gives (lent clipped emptyQueue) (row (setLeft 1 0)) (value 36863) (lent (set clipped 3 0) (only (packet 3 0 36863 1)))
+    ∷ gives (lent clipped (only (packet 5 1 1 0))) step (applied 5 1)
+    (store (2 ∷ 2 ∷ 1 ∷ 0 ∷ 0 ∷ 0 ∷ 0 ∷ 0 ∷ 1 ∷ 0 ∷ 0 ∷ 0 ∷ 0 ∷ 77 ∷ []) (at 1 0 emptyQueue) (0 ∷ 0 ∷ 9 ∷ []))
+    ∷ []
+
 pub record WrongAnswers : Type 0 where
   -- for any store and call where the papers decide
   pub first-no : (s : Store) (call : Call) (n : ℕ) (ns : List ℕ) → Decided s call → noes (questions s call) ≡ suc n ∷ ns
@@ -344,6 +397,9 @@ pub record WrongAnswers : Type 0 where
   pub rows : AllOnly row-entries
   pub nils : AllOnly nil-entries
   pub texts : AllOnly text-entries
+  pub clipped : AllOnly clipped-entries
+  pub clip-order : AllOnly clip-order-entries
+  pub unclipped : AllOnly unclipped-entries
   pub freshes : AllOnly fresh-entries
   pub steps : AllOnly step-entries
   pub place-63 : AllOnly ring-entries

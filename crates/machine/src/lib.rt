@@ -11,6 +11,9 @@ pub const MOST_CELLS: u16 = 4096;
 // The words from here on are atoms.
 pub const FIRST_ATOM: u16 = 32768;
 
+// The value at which the converter clips its readings: an atom of this value or more may not be stored.
+pub const CLIP: u16 = 4095;
+
 // The packet queue: 64 slots of a kind and three words, the first slot's place and the number of waiting packets.
 pub struct Queue {
     pub kinds: [u16; 64],
@@ -107,6 +110,7 @@ pub enum Refusal {
     NotInNotation,
     TooDeep,
     BufferTooShort,
+    ClippedReading,
 }
 
 impl Refusal {
@@ -127,6 +131,7 @@ impl Refusal {
             Refusal::NotInNotation => 11,
             Refusal::TooDeep => 12,
             Refusal::BufferTooShort => 13,
+            Refusal::ClippedReading => 14,
         }
     }
 }

@@ -3,6 +3,7 @@ pub mod MarkLaws
 pub mod FrameLaws
 pub mod PrintLaws
 pub mod ValueLaws
+pub mod LargestLaws
 pub mod DepthLaws
 pub mod Theorems
 pub mod Cases

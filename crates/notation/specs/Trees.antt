@@ -1,5 +1,5 @@
 -- What a text of the notation means: nil, an atom by its value, or a pair.
-use Prim.Native.Nat.{ℕ, suc, _+_, _≤_}
+use Prim.Native.Nat.{ℕ, suc, _+_, _≤_, max}
 
 pub data Tree : Type 0 where
   nil : Tree
@@ -21,3 +21,9 @@ unfoldable pub pairs : Tree → ℕ
 pairs nil = 0
 pairs (atom v) = 0
 pairs (pair a d) = suc (pairs a + pairs d)
+
+-- the largest value of its atoms, 0 where it has none
+unfoldable pub largest : Tree → ℕ
+largest nil = 0
+largest (atom v) = v
+largest (pair a d) = max (largest a) (largest d)

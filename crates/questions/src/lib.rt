@@ -1,6 +1,7 @@
 // What the questions ask that have an answer on every store: of words and numbers, of the queue, and questions 1 and 2, which calls, collector and
 // audit ask before anything else. Of the queue they look at its place and count alone.
 use machine::Asked;
+use machine::CLIP;
 use machine::FIRST_ATOM;
 use machine::MOST_CELLS;
 use machine::Queue;
@@ -10,7 +11,7 @@ use machine::RowCall;
 ghost use mathlib.Core.Path.{_≡_};
 ghost use Prim.Native.Nat.{_≤_};
 ghost use lib.ListN.{length};
-ghost use Rattle.machine.specs.Words.{isCell, isLegal};
+ghost use Rattle.machine.specs.Words.{isCell, isLegal, mayBeStored};
 ghost use Rattle.machine.specs.declared.Queue.{Queue};
 ghost use Rattle.machine.specs.Table.{header};
 ghost use Rattle.machine.specs.Queue.{placed};
@@ -38,6 +39,16 @@ pub fn is_legal(c: u16, w: u16) -> bool
         return true;
     }
     FIRST_ATOM <= w
+}
+
+// Question 14 of a word: no atom, or an atom of a value below the clip.
+pub fn may_be_stored(w: u16) -> bool
+    ensures { λ r. ⌜ r ≡ mayBeStored w ⌝ }
+{
+    if w < FIRST_ATOM {
+        return true;
+    }
+    w - FIRST_ATOM < CLIP
 }
 
 // A read of nil, of which only questions 1 and 4 are asked.

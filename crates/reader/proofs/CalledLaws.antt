@@ -8,9 +8,10 @@ use native.Mathlib.Numerals.{sub-one}
 use lib.Dec.{leb}
 use lib.ListN.{length}
 use borrow.Author.Tests.{leb-true, le-leb, lt-leb, not-true}
-use Rattle.notation.specs.Trees.{pairs}
+use Rattle.notation.specs.Trees.{pairs, largest}
 use Rattle.notation.specs.Parse.{Parsed, tree, none, parse, isTree, meaning}
 use Rattle.notation.specs.Brackets.{tooDeep}
+use Rattle.notation.proofs.Theorems.{values-read}
 use Rattle.scanner.specs.declared.Scanned
 use Rattle.scanner.specs.declared.Scanned.{Scanned}
 use Rattle.notation.specs.Grammar.{mostText}
@@ -21,16 +22,18 @@ use Rattle.machine.specs.declared.Asked.{Asked}
 use Rattle.machine.specs.declared.Refusal.{Refusal}
 use Rattle.machine.specs.declared.RowAnswer
 use Rattle.machine.specs.declared.RowAnswer.{RowAnswer}
-use Rattle.machine.specs.Words.{isCell}
+use Rattle.machine.specs.Words.{isCell, firstAtom, mayBeStored}
 use Rattle.machine.specs.Table.{left, capacity, firstFree, wordAt}
 use Rattle.machine.specs.Queue.{slots}
 use Rattle.machine.specs.Calls.{value, refused, store, field}
 use Rattle.machine.specs.Step.{Outcome, outcome}
-use Rattle.machine.specs.Questions.{firstNo, refusedBy, inRange, inNotation, notTooDeep, textPairs, slotsEmpty, early}
+use Rattle.machine.specs.Texts.{atomsStorable}
+use Rattle.machine.specs.Questions.{firstNo, refusedBy, inRange, inNotation, notTooDeep, textStorable, textPairs, slotsEmpty, early}
 use Rattle.machine.specs.Answers.{refusalNumber, askedNumber}
 use Rattle.machine.proofs.Answers.{refusal-some, asked-no, asked-yes}
 use Rattle.reader.specs.Builds.{Readable, Builds}
-use Rattle.reader.specs.Called.{slotsFor, chainHas, readQuestions, readOutcome, ReadCalled}
+use Rattle.reader.specs.Called.{slotsFor, chainHas, pairsNumber, treeNumber, readQuestions, readOutcome, ReadCalled}
+use Rattle.reader.proofs.StorableLaws.{atoms-stored}
 
 -- following the chain
 pub chain-ends : (n : ℕ) (t : List ℕ) (w : ℕ) → 0 < n → isCell (capacity t) w ≡ false → false ≡ chainHas n t w
@@ -56,11 +59,19 @@ pub slots-enough : (count n : ℕ) → count ≤ slots → n ≤ slots - count �
 unfolding slotsFor
 slots-enough count n h k = le-leb (count + n) slots (omega arith)
 
+-- question 14 before 7 and 8, by the largest value
+module _ (t : List ℕ) (count n v : ℕ) where
+  pub stored-yes : (m : ℕ) → mayBeStored (firstAtom + v) ≡ true → m ≡ pairsNumber t count n → m ≡ treeNumber t count n v
+  stored-yes m e h = rw e h
+
+  pub stored-no : mayBeStored (firstAtom + v) ≡ false → 14 ≡ treeNumber t count n v
+  stored-no e = rw e
+
 -- the first "no" from question 11 on, by what the scan finds
 scannedNumber : List ℕ → ℕ → Scanned → ℕ
 scannedNumber t count Scanned.Outside = 11
 scannedNumber t count Scanned.TooDeep = 12
-scannedNumber t count (Scanned.Pairs n) = refusedBy (slotsFor count n) 7 (refusedBy (chainHas n t (firstFree t)) 8 0)
+scannedNumber t count (Scanned.Tree n v) = treeNumber t count n v
 
 -- a question that is not refused
 yes-rest : (b : Bool) (n rest : ℕ) → 0 ≡ refusedBy b (suc n) rest → (b ≡ true) × (0 ≡ rest)
@@ -72,22 +83,23 @@ and-right true b e = e
 and-right false b e = let z : _≡_ {A = ℕ} 0 1 = cc in absurd (omega arith)
 
 module _ (t : List ℕ) (q : Queue) (text : List ℕ) where
-  scanned : scannedNumber t (q .count) (scanOf text) ≡ refusedBy (inNotation text) 11 (refusedBy (notTooDeep text) 12
-      (refusedBy (slotsEmpty q (textPairs text)) 7 (refusedBy (chainHas (textPairs text) t (firstFree t)) 8 0)))
-  unfolding scannedNumber inNotation notTooDeep textPairs slotsEmpty slotsFor scanOf
-  scanned = go (parse text) (leb (length text) mostText)
+  scanned : scannedNumber t (q .count) (scanOf text) ≡ refusedBy (inNotation text) 11 (refusedBy (notTooDeep text) 12 (refusedBy (textStorable text) 14
+      (refusedBy (slotsEmpty q (textPairs text)) 7 (refusedBy (chainHas (textPairs text) t (firstFree t)) 8 0))))
+  unfolding scannedNumber inNotation notTooDeep textStorable textPairs slotsEmpty slotsFor scanOf
+  scanned = go (parse text) refl (leb (length text) mostText)
     where
-      by-tests : (short deep : Bool) (n : ℕ) → scannedNumber t (q .count) (cond short (cond deep Scanned.TooDeep (Scanned.Pairs n)) Scanned.Outside)
-          ≡ refusedBy (short && true) 11 (refusedBy (not deep) 12 (refusedBy (slotsFor (q .count) n) 7 (refusedBy (chainHas n t (firstFree t)) 8 0)))
-      by-tests false deep n = refl
-      by-tests true true n = refl
-      by-tests true false n = refl
+      by-tests : (short deep storable : Bool) (n v : ℕ) → storable ≡ mayBeStored (firstAtom + v)
+          → scannedNumber t (q .count) (cond short (cond deep Scanned.TooDeep (Scanned.Tree n v)) Scanned.Outside)
+          ≡ refusedBy (short && true) 11 (refusedBy (not deep) 12 (refusedBy storable 14 (pairsNumber t (q .count) n)))
+      by-tests false deep storable n v e = refl
+      by-tests true true storable n v e = refl
+      by-tests true false storable n v e = rw e
 
-      go : (p : Parsed) (short : Bool) → scannedNumber t (q .count) (cond short (judged text p) Scanned.Outside)
-          ≡ refusedBy (short && isTree p) 11 (refusedBy (not (tooDeep 0 text)) 12 (refusedBy (slotsFor (q .count) (pairs (meaning p))) 7 (refusedBy (chainHas (pairs (meaning p)) t (firstFree t)) 8 0)))
-      go (tree u) short = by-tests short (tooDeep 0 text) (pairs u)
-      go none true = refl
-      go none false = refl
+      go : (p : Parsed) → parse text ≡ p → (short : Bool) → scannedNumber t (q .count) (cond short (judged text p) Scanned.Outside)
+          ≡ refusedBy (short && isTree p) 11 (refusedBy (not (tooDeep 0 text)) 12 (refusedBy (atomsStorable (meaning p)) 14 (pairsNumber t (q .count) (pairs (meaning p)))))
+      go (tree u) e short = by-tests short (tooDeep 0 text) (atomsStorable u) (pairs u) (largest u) (atoms-stored u (values-read text u e))
+      go none e true = refl
+      go none e false = refl
 
   -- question 1 says "no"
   pub asked-first : inRange t q ≡ false → 1 ≡ firstNo (readQuestions t q text)
@@ -108,10 +120,9 @@ module _ (t : List ℕ) (q : Queue) (text : List ℕ) where
     unfolding scannedNumber
     asked-deep e = rw e at asked-scan
 
-    pub asked-pairs : (n : ℕ) → s ≡ Scanned.Pairs n
-        → refusedBy (slotsFor (q .count) n) 7 (refusedBy (chainHas n t (firstFree t)) 8 0) ≡ firstNo (readQuestions t q text)
+    pub asked-tree : (n v : ℕ) → s ≡ Scanned.Tree n v → treeNumber t (q .count) n v ≡ firstNo (readQuestions t q text)
     unfolding scannedNumber
-    asked-pairs n e = rw e at asked-scan
+    asked-tree n v e = rw e at asked-scan
 
   -- a question says "no"
   pub read-refused : (a : Asked) (f : Refusal) → askedNumber a ≡ firstNo (readQuestions t q text) → a ≡ Asked.No f → ReadCalled t q text (RowAnswer.Refused f) t q
@@ -137,12 +148,13 @@ module _ (t : List ℕ) (q : Queue) (text : List ℕ) where
     yes = asked-yes h said
 
     pub readable : Readable text
-    unfolding firstNo readQuestions early inNotation notTooDeep textPairs slotsEmpty
+    unfolding firstNo readQuestions early inNotation notTooDeep textStorable textPairs slotsEmpty
     readable =
         let after1 = yes-rest (inRange t q) 0 _ yes in
         let after11 = yes-rest (leb (length text) mostText && isTree (parse text)) 10 _ (after1 .1) in
         let after12 = yes-rest (not (tooDeep 0 text)) 11 _ (after11 .1) in
-        let after7 = yes-rest (leb (q .count + pairs (meaning (parse text))) slots) 6 _ (after12 .1) in
+        let after14 = yes-rest (atomsStorable (meaning (parse text))) 13 _ (after12 .1) in
+        let after7 = yes-rest (leb (q .count + pairs (meaning (parse text))) slots) 6 _ (after14 .1) in
         go (parse text) refl (and-right (leb (length text) mostText) (isTree (parse text)) (after11 .0)) (not-true (tooDeep 0 text) (after12 .0)) (leb-true (q .count + pairs (meaning (parse text))) slots (after7 .0))
       where
         go : (p : Parsed) → parse text ≡ p → isTree p ≡ true → tooDeep 0 text ≡ false → q .count + pairs (meaning p) ≤ slots → Readable text

@@ -5,4 +5,5 @@ pub mod ReadLaws
 pub mod HeldLaws
 pub mod RoomLaws
 pub mod BuildLaws
+pub mod StorableLaws
 pub mod CalledLaws

@@ -7,13 +7,13 @@ use lib.Dec.{leb}
 use Rattle.notation.specs.Parse.{Parsed, parse, meaning}
 use Rattle.machine.specs.declared.Queue.{Queue}
 use Rattle.machine.specs.declared.RowAnswer.{RowAnswer}
-use Rattle.machine.specs.Words.{isCell}
+use Rattle.machine.specs.Words.{isCell, firstAtom, mayBeStored}
 use Rattle.machine.specs.Table.{left, capacity, firstFree}
 use Rattle.machine.specs.Queue.{slots}
 use Rattle.machine.specs.Calls.{read, value, Store, store, field}
 use Rattle.machine.specs.Step.{Outcome, outcome}
 use Rattle.machine.specs.Texts.{buildBy}
-use Rattle.machine.specs.Questions.{Question, ask, firstNo, early, textPairs, slotsEmpty}
+use Rattle.machine.specs.Questions.{Question, ask, refusedBy, firstNo, early, textPairs, slotsEmpty}
 use Rattle.machine.specs.Machine.{refusedOr}
 use Rattle.machine.specs.Answers.{rowReply}
 use Rattle.reader.specs.Builds.{codeCons}
@@ -26,6 +26,14 @@ slotsFor count n = leb (count + n) slots
 unfoldable pub chainHas : ℕ → List ℕ → ℕ → Bool
 chainHas zero t w = true
 chainHas (suc n) t w = isCell (capacity t) w && chainHas n t (field t w left)
+
+-- the first "no" of 7 and 8
+abbrev pub pairsNumber : List ℕ → ℕ → ℕ → ℕ
+pairsNumber t count n = refusedBy (slotsFor count n) 7 (refusedBy (chainHas n t (firstFree t)) 8 0)
+
+-- and of 14 before them, where v is the largest value of an atom
+abbrev pub treeNumber : List ℕ → ℕ → ℕ → ℕ → ℕ
+treeNumber t count n v = refusedBy (mayBeStored (firstAtom + v)) 14 (pairsNumber t count n)
 
 -- the questions of reading a text as the code asks them: the paper's, but for 8, for which the code goes along the free chain
 unfoldable pub readQuestions : List ℕ → Queue → List ℕ → List Question

@@ -1,17 +1,19 @@
 // The questions before a text is read. Nothing is written until all of them say "yes".
 use machine::Asked;
+use machine::FIRST_ATOM;
 use machine::Queue;
 use machine::Refusal;
 use scanner::Scanned;
 ghost use mathlib.Core.Path.{_≡_};
 ghost use Prim.Native.Nat.{_≤_};
+ghost use Rattle.notation.specs.Trees.{largestValue};
 ghost use Rattle.machine.specs.declared.Queue.{Queue};
 ghost use Rattle.machine.specs.Table.{firstFree};
 ghost use Rattle.machine.specs.Queue.{slots, placed};
 ghost use Rattle.machine.specs.Facts.{TableShape};
-ghost use Rattle.machine.specs.Questions.{firstNo, refusedBy};
+ghost use Rattle.machine.specs.Questions.{firstNo};
 ghost use Rattle.machine.specs.Answers.{askedNumber};
-ghost use Rattle.reader.specs.Called.{slotsFor, chainHas, readQuestions};
+ghost use Rattle.reader.specs.Called.{chainHas, pairsNumber, treeNumber, readQuestions};
 
 // The free chain has n cells: it is followed that far, whatever the table is.
 fn chain_has(table: &[u16], n: u16) -> bool
@@ -34,7 +36,7 @@ fn chain_has(table: &[u16], n: u16) -> bool
 // Questions 7 and 8 of n pairs.
 fn pairs_asked(table: &[u16], count: u16, n: u16) -> Asked
     requires { ⌜ TableShape (now table) × (count ≤ slots) ⌝ }
-    ensures { λ r. ⌜ askedNumber r ≡ refusedBy (slotsFor count n) 7 (refusedBy (chainHas n (now (table .entry)) (firstFree (now (table .entry)))) 8 0) ⌝ }
+    ensures { λ r. ⌜ askedNumber r ≡ pairsNumber (now (table .entry)) count n ⌝ }
 {
     if Queue::SLOTS - count < n {
         return Asked::No(Refusal::QueueFull);
@@ -45,7 +47,18 @@ fn pairs_asked(table: &[u16], count: u16, n: u16) -> Asked
     Asked::No(Refusal::NoFreeCell)
 }
 
-// All of them.
+// And before them question 14 of the atoms, by the largest of their values.
+fn tree_asked(table: &[u16], count: u16, pairs: u16, largest: u16) -> Asked
+    requires { ⌜ TableShape (now table) × (count ≤ slots) × (largest ≤ largestValue) ⌝ }
+    ensures { λ r. ⌜ askedNumber r ≡ treeNumber (now (table .entry)) count pairs largest ⌝ }
+{
+    if questions::may_be_stored(FIRST_ATOM + largest) {
+        return pairs_asked(table, count, pairs);
+    }
+    Asked::No(Refusal::ClippedReading)
+}
+
+// All of them: 1, 11, 12, 14, 7 and 8.
 pub fn text_asked(table: &[u16], place: u16, count: u16, text: &[u8]) -> Asked
     ensures { λ r. ⌜ ((q : Queue) → askedNumber r ≡ firstNo (readQuestions (now (table .entry)) (placed q place count) (now (text .entry)))) ⌝ }
 {
@@ -56,6 +69,6 @@ pub fn text_asked(table: &[u16], place: u16, count: u16, text: &[u8]) -> Asked
     match scanned {
         Scanned::Outside => Asked::No(Refusal::NotInNotation),
         Scanned::TooDeep => Asked::No(Refusal::TooDeep),
-        Scanned::Pairs(n) => pairs_asked(table, count, n),
+        Scanned::Tree { pairs, largest } => tree_asked(table, count, pairs, largest),
     }
 }

@@ -23,7 +23,7 @@ use Rattle.machine.specs.Counts.{heldAtLeast}
 use Rattle.machine.specs.Calls.{read, write, Reply, value, refused, text, Store, store}
 use Rattle.machine.specs.Step.{Outcome}
 use Rattle.machine.specs.Texts.{buildBy, textFor}
-use Rattle.machine.specs.Questions.{refusedBy, firstNo, inNotation, notTooDeep, textPairs, slotsEmpty, cellsFree, wordsLegal, wordHeld, met, early, late, questions}
+use Rattle.machine.specs.Questions.{refusedBy, firstNo, inNotation, notTooDeep, textStorable, textPairs, slotsEmpty, cellsFree, wordsLegal, wordHeld, met, early, late, questions}
 use Rattle.machine.specs.Machine.{consed, textRead, accepted, machine}
 use Rattle.machine.specs.Promise.{Promise}
 use Rattle.machine.proofs.Range.{and-first, and-second, total-same, total-ones, matching-same}
@@ -53,12 +53,12 @@ clean-cells {t} c =
 -- so question 8 never says "no" where 7 does not
 pub clean-asked : {t : List ℕ} {q : Queue} {scratch : List ℕ} → Clean t q scratch → (line : List ℕ)
     → firstNo (questions (store t q []) (read line))
-    ≡ refusedBy (inNotation line) 11 (refusedBy (notTooDeep line) 12 (refusedBy (leb (textPairs line) storeCells) 7 0))
+    ≡ refusedBy (inNotation line) 11 (refusedBy (notTooDeep line) 12 (refusedBy (textStorable line) 14 (refusedBy (leb (textPairs line) storeCells) 7 0)))
 unfolding firstNo questions early late slotsEmpty cellsFree
 clean-asked {t} {q} c line =
     let slot : q .count + textPairs line ≡ textPairs line = omega (arith, c .idle) in
     rw (c .whole .sound .shape, slot, clean-cells c)
-    (ap (λ (n : ℕ). refusedBy (inNotation line) 11 (refusedBy (notTooDeep line) 12 n)) (once (leb (textPairs line) storeCells)))
+    (ap (λ (n : ℕ). refusedBy (inNotation line) 11 (refusedBy (notTooDeep line) 12 (refusedBy (textStorable line) 14 n))) (once (leb (textPairs line) storeCells)))
   where
     once : (b : Bool) → refusedBy b 7 (refusedBy b 8 0) ≡ refusedBy b 7 0
     once true = refl
@@ -99,10 +99,10 @@ module _ {t : List ℕ} {q : Queue} {scratch : List ℕ} (c : Clean t q scratch)
         let es : store t′ q′ [] ≡ s = given .1 ∙ ap (λ (o : Outcome). o .after) m in
         rw er (a, ap (λ (x : Store). x .table) es, ap (λ (x : Store). x .queue) es)
 
-    accepts : firstNo (questions s (read line)) ≡ 0 → inNotation line ≡ true → notTooDeep line ≡ true → leb (textPairs line) storeCells ≡ true
-        → Reads line t q scratch r t′ q′
+    accepts : firstNo (questions s (read line)) ≡ 0 → inNotation line ≡ true → notTooDeep line ≡ true → textStorable line ≡ true
+        → leb (textPairs line) storeCells ≡ true → Reads line t q scratch r t′ q′
     unfolding accepted textRead textPairs wordsLegal everyOf answerOf
-    accepts e a d n =
+    accepts e a d v n =
         let m = machine-accepted s (read line) e in
         let b = buildBy consed s means-tree in
         let k = text-built s line (c .whole) e .1 in
@@ -122,7 +122,7 @@ module _ {t : List ℕ} {q : Queue} {scratch : List ℕ} (c : Clean t q scratch)
           };
           waits = omega (arith, k .count, c .idle);
           opens = k .opens;
-          answer = rw (a, d, n);
+          answer = rw (a, d, v, n);
           shallow = print-shallow line means-tree is (shallow line d);
           fits = omega (arith, print-length means-tree (values-read line means-tree is), leb-true (pairs means-tree) storeCells n);
         })
@@ -130,15 +130,17 @@ module _ {t : List ℕ} {q : Queue} {scratch : List ℕ} (c : Clean t q scratch)
     -- what reading a line gives
     pub clean-reads : Reads line t q scratch r t′ q′
     unfolding answerOf
-    clean-reads = go (inNotation line) (notTooDeep line) (leb (textPairs line) storeCells) refl refl refl (clean-asked c line)
+    clean-reads = go (inNotation line) (notTooDeep line) (textStorable line) (leb (textPairs line) storeCells) refl refl refl refl (clean-asked c line)
       where
-        go : (a d n : Bool) → inNotation line ≡ a → notTooDeep line ≡ d → leb (textPairs line) storeCells ≡ n
-            → firstNo (questions s (read line)) ≡ refusedBy (inNotation line) 11 (refusedBy (notTooDeep line) 12 (refusedBy (leb (textPairs line) storeCells) 7 0))
+        go : (a d v n : Bool) → inNotation line ≡ a → notTooDeep line ≡ d → textStorable line ≡ v → leb (textPairs line) storeCells ≡ n
+            → firstNo (questions s (read line))
+            ≡ refusedBy (inNotation line) 11 (refusedBy (notTooDeep line) 12 (refusedBy (textStorable line) 14 (refusedBy (leb (textPairs line) storeCells) 7 0)))
             → Reads line t q scratch r t′ q′
-        go false d n ea ed en e = refuses 10 (rw ea at e) (rw ea)
-        go true false n ea ed en e = refuses 11 (rw (ea, ed) at e) (rw (ea, ed))
-        go true true false ea ed en e = refuses 6 (rw (ea, ed, en) at e) (rw (ea, ed, en))
-        go true true true ea ed en e = accepts (rw (ea, ed, en) at e) ea ed en
+        go false d v n ea ed ev en e = refuses 10 (rw ea at e) (rw ea)
+        go true false v n ea ed ev en e = refuses 11 (rw (ea, ed) at e) (rw (ea, ed))
+        go true true false n ea ed ev en e = refuses 13 (rw (ea, ed, ev) at e) (rw (ea, ed, ev))
+        go true true true false ea ed ev en e = refuses 6 (rw (ea, ed, ev, en) at e) (rw (ea, ed, ev, en))
+        go true true true true ea ed ev en e = accepts (rw (ea, ed, ev, en) at e) ea ed ev en
 
 -- what is then written, into so much room
 module _ {line : List ℕ} {w : ℕ} {t : List ℕ} {q : Queue} {scratch : List ℕ} (b : ReadBack line w t q scratch) (room : ℕ) (enough : mostAnswer ≤ room) where

@@ -7,7 +7,7 @@ use Rattle.base_ten.specs.Bytes.{lineFeed, ascii, linesOf}
 use Rattle.base_ten.specs.Decimal.{decimal}
 use Rattle.notation.specs.Parse.{parse, meaning}
 use Rattle.notation.specs.Print.{print}
-use Rattle.machine.specs.Questions.{inNotation, notTooDeep, textPairs}
+use Rattle.machine.specs.Questions.{inNotation, notTooDeep, textStorable, textPairs}
 
 -- the cells of the store, as many as its queue has slots
 abbrev pub storeCells : ℕ
@@ -22,9 +22,11 @@ unfoldable pub answerOf : List ℕ → List ℕ
 answerOf line =
     cond (inNotation line)
     (cond (notTooDeep line)
+    (cond (textStorable line)
     (cond (leb (textPairs line) storeCells)
     (print (meaning (parse line)))
     (no 7))
+    (no 14))
     (no 12))
     (no 11)
 

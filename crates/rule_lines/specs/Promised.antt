@@ -13,7 +13,7 @@ use Rattle.rule_lines.specs.Stores.{Clean, Holding, ReadBack, Reads, Fre
 pub record Promised : Type 0 where
   -- a fresh of 64 cells makes a table clean
   pub freshens : (t : List ℕ) (q : Queue) (r : Reply) (t′ : List ℕ) (q′ : Queue) → Promise (store t q []) (fresh storeCells) r (store t′ q′ []) → Freshens t t′ q′
-  -- on a clean store reading a line is answered by the line alone: 11, 12 or 7, and nothing changes; or its word is held, and nothing else
+  -- on a clean store reading a line is answered by the line alone: 11, 12, 14 or 7, and nothing changes; or its word is held, and nothing else
   pub reads : (t : List ℕ) (q : Queue) (scratch line : List ℕ) (r : Reply) (t′ : List ℕ) (q′ : Queue)
       → Clean t q scratch → Promise (store t q []) (read line) r (store t′ q′ []) → Reads line t q scratch r t′ q′
   -- writing that word replies the line's answer, into any room that is enough for 64 pairs

@@ -2,4 +2,5 @@
 pub mod TokenLaws
 pub mod ModeLaws
 pub mod DepthLaws
+pub mod LargestLaws
 pub mod ScanLaws

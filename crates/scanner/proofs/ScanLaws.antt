@@ -1,16 +1,17 @@
 -- A scan's locals keep to the open lists of the definition, token by token.
 use mathlib.Core.Path.{_≡_, refl, sym, ap, _∙_}
 use mathlib.Core.Bool.{Bool, true, false, _||_}
-use mathlib.Core.List.{List, [], _∷_, map}
-use Prim.Native.Nat.{ℕ, suc, pred, _+_, _-_, _≤_, _<_}
+use mathlib.Core.List.{List, [], _∷_, _++_, map}
+use Prim.Native.Nat.{ℕ, suc, pred, _+_, _-_, _≤_, _<_, max}
+use native.Mathlib.Nat.{zero-max, max-zero}
 use native.Mathlib.Numerals.{add-one, sub-one}
 use native.Mathlib.Omega.{arith}
 use lib.Dec.{eqb}
 use lib.ListN.{length, drop, drop-of-length-le, length-drop, length-map}
 use borrow.Author.Tests.{lt-leb, le-leb}
-use Rattle.notation.specs.Trees.{Tree, nil, atom, pair, pairs}
+use Rattle.notation.specs.Trees.{Tree, nil, atom, pair, pairs, largest}
 use Rattle.notation.specs.Grammar.{Token, opening, closing, dot, number, mostText}
-use Rattle.notation.specs.Parse.{token, foreign, Frame, plain, dotted, full, State, within, outside, deliver, listOf, closeList, dotList, next, parsedFrom, marksAfter, marksOf, start, tree, none, treeOf, parse}
+use Rattle.notation.specs.Parse.{Mark, token, foreign, Frame, plain, dotted, full, State, within, outside, deliver, listOf, closeList, dotList, next, parsedFrom, marksAfter, marksOf, start, tree, none, treeOf, parse}
 use Rattle.notation.specs.Brackets.{mostOpen, tooDeep}
 use Rattle.notation.proofs.Tall.{too-tall, stays-outside, marks-short}
 use Rattle.scanner.specs.declared.Scanned
@@ -20,9 +21,10 @@ use Rattle.scanner.specs.declared.lists.Taken
 use Rattle.scanner.specs.declared.lists.Taken.{Taken}
 use Rattle.scanner.specs.Modes.{mostModes, unstacked, Stacked, Pushed, Popped}
 use Rattle.scanner.specs.Scans.{judged, scanOf}
-use Rattle.scanner.specs.Scanning.{modeOf, elementPairs, openPairs, Based, grownBy, Pending, nothing, mark, datum, taken, pendingPairs, pendingBytes, deepFrom, Scanning, TakenOf}
+use Rattle.scanner.specs.Scanning.{modeOf, elementPairs, openPairs, largestMark, Based, grownBy, Pending, nothing, mark, datum, taken, pendingPairs, pendingMarks, pendingBytes, deepFrom, Scanning, TakenOf}
 use Rattle.scanner.proofs.ModeLaws.{unstacked-length}
 use Rattle.scanner.proofs.DepthLaws.{deepMarks, deep-marks}
+use Rattle.scanner.proofs.LargestLaws.{text-largest}
 
 pub list-pairs : (es : List Tree) (l : Tree) → pairs (listOf es l) ≡ elementPairs es + pairs l
 unfolding listOf pairs elementPairs
@@ -42,14 +44,14 @@ or-assoc false b c = refl
 -- a token read
 module _ (text words : List ℕ) (s : Scan) (next : ℕ) (x : Scanning text words s nothing) where
   abbrev moved : Scan
-  moved = record { at = next; mode = s .mode; brackets = s .brackets; deep = s .deep; pairs = s .pairs }
+  moved = record { at = next; mode = s .mode; brackets = s .brackets; deep = s .deep; pairs = s .pairs; largest = s .largest }
 
   module _ (further : s .at < next) (inside : next ≤ length text) where
-    read : (p : Pending) → pendingPairs p ≡ 0 → pendingBytes p ≤ 1
+    read : (p : Pending) → pendingPairs p ≡ 0 → pendingBytes p ≤ 1 → marksOf (drop (s .at) text) ≡ pendingMarks p ++ marksOf (drop next text)
         → parsedFrom (within (x .frames)) (marksOf (drop (s .at) text)) ≡ parsedFrom (taken p (x .frames)) (marksOf (drop next text))
         → deepMarks (s .brackets) (marksOf (drop (s .at) text)) ≡ deepFrom p (s .brackets) (drop next text)
         → Scanning text words moved p
-    read p zero-pairs one same depth =
+    read p zero-pairs one marks same depth =
         let l = x .locals in
         record {
           frames = x .frames;
@@ -59,6 +61,7 @@ module _ (text words : List ℕ) (s : Scan) (next : ℕ) (x : Scanning text word
           parsed = x .parsed ∙ ap treeOf same;
           deep = x .deep ∙ ap (λ (d : Bool). s .deep || d) (sym (deep-marks (s .brackets) (drop (s .at) text)) ∙ depth);
           counted = omega (arith, x .counted);
+          values = x .values ∙ ap (λ (ms : List Mark). max (s .largest) (largestMark ms)) marks;
           short = x .short;
           inside = inside;
           enough = omega (arith, x .enough);
@@ -66,11 +69,11 @@ module _ (text words : List ℕ) (s : Scan) (next : ℕ) (x : Scanning text word
         }
 
     pub blank-read : marksOf (drop (s .at) text) ≡ marksOf (drop next text) → Scanning text words moved nothing
-    blank-read e = read nothing refl (omega arith) (rw e) (rw e (deep-marks (s .brackets) (drop next text)))
+    blank-read e = read nothing refl (omega arith) e (rw e) (rw e (deep-marks (s .brackets) (drop next text)))
 
     pub token-read : (k : Token) → marksOf (drop (s .at) text) ≡ token k ∷ marksOf (drop next text) → Scanning text words moved (mark k)
     unfolding parsedFrom
-    token-read k e = read (mark k) refl (omega arith) (rw e) (rw e (by-token k))
+    token-read k e = read (mark k) refl (omega arith) e (rw e) (rw e (by-token k))
       where
         by-token : (k : Token) → deepMarks (s .brackets) (token k ∷ marksOf (drop next text)) ≡ deepFrom (mark k) (s .brackets) (drop next text)
         by-token opening = ap (λ (d : Bool). eqb (s .brackets) mostOpen || d) (deep-marks (suc (s .brackets)) (drop next text))
@@ -95,8 +98,9 @@ module _ (text words : List ℕ) (s : Scan) where
     -- another innermost list, in the same others
     settles : (fs : List Frame) (mode more : ℕ) → taken p (x .frames) ≡ within fs → map modeOf fs ≡ mode ∷ unstacked (s .brackets) words → Based fs
         → deepFrom p (s .brackets) (drop (s .at) text) ≡ tooDeep (s .brackets) (drop (s .at) text)
+        → largestMark (pendingMarks p ++ marksOf (drop (s .at) text)) ≡ largestMark (marksOf (drop (s .at) text))
         → mode < 4 → s .pairs + more ≡ openPairs fs → more ≤ pendingBytes p → Scanning text words (grownBy s mode more) nothing
-    settles fs mode more e m b d small counted one = record {
+    settles fs mode more e m b d v small counted one = record {
       frames = fs;
       locals = record { stacked = x .locals .stacked; room = x .locals .room; mode = small; few = omega (arith, x .enough, x .inside, x .short) };
       modes = m;
@@ -104,6 +108,7 @@ module _ (text words : List ℕ) (s : Scan) where
       parsed = x .parsed ∙ ap (λ (r : State). treeOf (parsedFrom r (marksOf (drop (s .at) text)))) e;
       deep = x .deep ∙ ap (λ (r : Bool). s .deep || r) d;
       counted = omega arith;
+      values = x .values ∙ ap (max (s .largest)) v;
       short = x .short;
       inside = x .inside;
       enough = omega (arith, x .enough);
@@ -136,7 +141,7 @@ module _ (text words : List ℕ) (s : Scan) where
         go (plain (y ∷ es) ∷ fs) e m b n = let z : 1 ≡ s .mode = cc in absurd (omega arith)
         go (dotted es ∷ fs) e m b n =
             let others : map modeOf fs ≡ unstacked (s .brackets) words = cc in
-            settles (datum t) x (full es t ∷ fs) 3 0 (ap (deliver t) e) (ap {B = List ℕ} (λ r. 3 ∷ r) others) (base es fs b) refl (omega arith)
+            settles (datum t) x (full es t ∷ fs) 3 0 (ap (deliver t) e) (ap {B = List ℕ} (λ r. 3 ∷ r) others) (base es fs b) refl refl (omega arith)
             (omega arith) (omega arith)
         go (full es l ∷ fs) e m b n = let z : 3 ≡ s .mode = cc in absurd (omega arith)
 
@@ -151,7 +156,7 @@ module _ (text words : List ℕ) (s : Scan) where
         go (plain es ∷ []) e m b n = absurd b
         go (plain es ∷ f ∷ fs) e m b n =
             let others : map modeOf (f ∷ fs) ≡ unstacked (s .brackets) words = cc in
-            settles (datum t) x (plain (t ∷ es) ∷ f ∷ fs) 1 1 (ap (deliver t) e) (ap {B = List ℕ} (λ r. 1 ∷ r) others) b refl (omega arith)
+            settles (datum t) x (plain (t ∷ es) ∷ f ∷ fs) 1 1 (ap (deliver t) e) (ap {B = List ℕ} (λ r. 1 ∷ r) others) b refl refl (omega arith)
             (omega arith) (omega arith)
         go (dotted es ∷ fs) e m b n = absurd (another (let z : s .mode ≡ 2 = cc in z))
         go (full es l ∷ fs) e m b n = absurd (other (let z : s .mode ≡ 3 = cc in z))
@@ -177,7 +182,7 @@ module _ (text words : List ℕ) (s : Scan) where
         go (plain (y ∷ es) ∷ []) e m b n = absurd b
         go (plain (y ∷ es) ∷ f ∷ fs) e m b n =
             let others : map modeOf (f ∷ fs) ≡ unstacked (s .brackets) words = cc in
-            settles (mark dot) x (dotted (y ∷ es) ∷ f ∷ fs) 2 0 (ap dotList e) (ap {B = List ℕ} (λ r. 2 ∷ r) others) b refl (omega arith)
+            settles (mark dot) x (dotted (y ∷ es) ∷ f ∷ fs) 2 0 (ap dotList e) (ap {B = List ℕ} (λ r. 2 ∷ r) others) b refl refl (omega arith)
             (omega arith) (omega arith)
         go (dotted es ∷ fs) e m b n = let z : 2 ≡ s .mode = cc in absurd (omega arith)
         go (full es l ∷ fs) e m b n = let z : 3 ≡ s .mode = cc in absurd (omega arith)
@@ -191,7 +196,7 @@ module _ (text words : List ℕ) (s : Scan) where
         (omega (arith, height (mark opening) x, marks-short (drop (s .at) text), length-drop (s .at) text, x .short, x .inside, x .opened))
 
     pub opens : (new : List ℕ) (deep : Bool) → (s .brackets ≡ mostModes → ⊥) → Pushed (s .brackets) (s .mode) words new → deep ≡ (s .deep || eqb (s .brackets) mostOpen)
-        → Scanning text new (record { at = s .at; mode = 0; brackets = s .brackets + 1; deep = deep; pairs = s .pairs }) nothing
+        → Scanning text new (record { at = s .at; mode = 0; brackets = s .brackets + 1; deep = deep; pairs = s .pairs; largest = s .largest }) nothing
     unfolding elementPairs
     opens new deep h pushed e = record {
       frames = plain [] ∷ x .frames;
@@ -201,6 +206,7 @@ module _ (text words : List ℕ) (s : Scan) where
       parsed = x .parsed;
       deep = x .deep ∙ sym (or-assoc (s .deep) (eqb (s .brackets) mostOpen) (tooDeep (suc (s .brackets)) (drop (s .at) text))) ∙ rw (e, add-one (s .brackets)) refl;
       counted = omega (arith, x .counted);
+      values = x .values;
       short = x .short;
       inside = x .inside;
       enough = omega (arith, x .enough);
@@ -234,7 +240,7 @@ module _ (text words : List ℕ) (s : Scan) where
 
     module _ (new : List ℕ) (mode : ℕ) (any : s .brackets ≡ 0 → ⊥) (other : s .mode ≡ 2 → ⊥) (popped : Popped (s .brackets) mode words new) where
       abbrev outer : Scan
-      outer = record { at = s .at; mode = mode; brackets = s .brackets - 1; deep = s .deep; pairs = s .pairs }
+      outer = record { at = s .at; mode = mode; brackets = s .brackets - 1; deep = s .deep; pairs = s .pairs; largest = s .largest }
 
       -- the list that ends, a datum for the one around it
       ended : (f : Frame) (fs : List Frame) (t : Tree) → closeList (x .frames) ≡ deliver t (f ∷ fs) → map modeOf (f ∷ fs) ≡ unstacked (s .brackets) words → Based (f ∷ fs)
@@ -250,6 +256,7 @@ module _ (text words : List ℕ) (s : Scan) where
             parsed = x .parsed ∙ ap (λ (r : State). treeOf (parsedFrom r (marksOf (drop (s .at) text)))) e;
             deep = rw (sub-one (s .brackets)) (x .deep);
             counted = n;
+            values = x .values;
             short = x .short;
             inside = x .inside;
             enough = x .enough;
@@ -272,17 +279,19 @@ module _ (text words : List ℕ) (s : Scan) where
               let others : map modeOf (f ∷ fs) ≡ unstacked (s .brackets) words = cc in
               then (listOf es l) (ended f fs (listOf es l) (ap closeList e) others b (omega (arith, list-pairs es l)))
 
-  -- an atom is a datum
-  pub number-read : (v : ℕ) → Scanning text words s (mark (number v)) → Scanning text words s (datum (atom v))
+  -- an atom is a datum, and its value is taken
+  pub number-read : (v n : ℕ) → n ≡ max (s .largest) v → Scanning text words s (mark (number v))
+      → Scanning text words (record { at = s .at; mode = s .mode; brackets = s .brackets; deep = s .deep; pairs = s .pairs; largest = n }) (datum (atom v))
   unfolding pairs
-  number-read v x = record {
+  number-read v n e x = record {
     frames = x .frames;
-    locals = x .locals;
+    locals = record { stacked = x .locals .stacked; room = x .locals .room; mode = x .locals .mode; few = x .locals .few };
     modes = x .modes;
     based = x .based;
     parsed = x .parsed;
     deep = x .deep;
     counted = x .counted;
+    values = x .values ∙ omega arith;
     short = x .short;
     inside = x .inside;
     enough = x .enough;
@@ -291,7 +300,7 @@ module _ (text words : List ℕ) (s : Scan) where
 
 -- before the first token
 pub started : (text words : List ℕ) → length text ≤ mostText → Stacked 0 words
-    → Scanning text words (record { at = 0; mode = 2; brackets = 0; deep = false; pairs = 0 }) nothing
+    → Scanning text words (record { at = 0; mode = 2; brackets = 0; deep = false; pairs = 0; largest = 0 }) nothing
 unfolding parse unstacked elementPairs
 started text words short stacked = record {
   frames = start;
@@ -301,6 +310,7 @@ started text words short stacked = record {
   parsed = refl;
   deep = refl;
   counted = omega arith;
+  values = sym (zero-max (largestMark (marksOf text)));
   short = short;
   inside = omega arith;
   enough = omega arith;
@@ -354,9 +364,17 @@ module _ (text words : List ℕ) (s : Scan) (x : Scanning text words s nothing) 
     pub is-deep : s .deep ≡ true → Scanned.TooDeep ≡ judged text (parse text)
     is-deep h = whole (λ t e n. let d : tooDeep 0 text ≡ true = rw h at (x .deep) in rw (e, d))
 
-    pub is-shallow : s .deep ≡ false → Scanned.Pairs (s .pairs) ≡ judged text (parse text)
+    -- all marks are read
+    value : largestMark (marksOf text) ≡ s .largest
+    unfolding marksAfter
+    value = rw last at (x .values) ∙ max-zero (s .largest)
+
+    pub is-shallow : s .deep ≡ false → Scanned.Tree (s .pairs) (s .largest) ≡ judged text (parse text)
     unfolding tooDeep
-    is-shallow h = whole (λ t e n. let d : tooDeep 0 text ≡ false = rw (h, last) at (x .deep) in rw (e, d, n))
+    is-shallow h = whole (λ t e n.
+        let d : tooDeep 0 text ≡ false = rw (h, last) at (x .deep) in
+        let v : s .largest ≡ largest t = sym value ∙ text-largest text t e in
+        rw (e, d, n, v))
 
 pub taken-from : {from next : ℕ} (text words : List ℕ) (r : Taken) → from < next → TakenOf text words next r → TakenOf text words (from + 1) r
 taken-from text words (Taken.Within s) h x = (x .0, omega (arith, x .1))

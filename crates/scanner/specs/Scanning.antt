@@ -1,13 +1,13 @@
 -- How far a scan has come: its locals are what matters of the open lists that the definition of parsing has at that place.
 use mathlib.Core.Path.{_≡_}
 use mathlib.Core.Bool.{Bool, _||_}
-use mathlib.Core.List.{List, [], _∷_, map}
-use Prim.Native.Nat.{ℕ, suc, pred, _+_, _≤_, _<_}
+use mathlib.Core.List.{List, [], _∷_, _++_, map}
+use Prim.Native.Nat.{ℕ, suc, pred, _+_, _≤_, _<_, max}
 use lib.Dec.{eqb}
 use lib.ListN.{length, drop}
 use Rattle.notation.specs.Trees.{Tree, pairs}
 use Rattle.notation.specs.Grammar.{Token, opening, closing, dot, number}
-use Rattle.notation.specs.Parse.{Frame, plain, dotted, full, State, within, deliver, onToken, marksOf, parsedFrom, treeOf, parse, none}
+use Rattle.notation.specs.Parse.{Mark, token, foreign, Frame, plain, dotted, full, State, within, deliver, onToken, marksOf, parsedFrom, treeOf, parse, none}
 use Rattle.notation.specs.Brackets.{mostOpen, tooDeep}
 use Rattle.scanner.specs.declared.lists.Scan.{Scan}
 use Rattle.scanner.specs.declared.lists.Taken
@@ -37,6 +37,15 @@ abbrev pub openPairs : List Frame → ℕ
 openPairs [] = 0
 openPairs (f ∷ fs) = framePairs f + openPairs fs
 
+-- the largest value of an atom among marks, 0 where there is none
+abbrev pub largestMark : List Mark → ℕ
+largestMark [] = 0
+largestMark (token opening ∷ ms) = largestMark ms
+largestMark (token closing ∷ ms) = largestMark ms
+largestMark (token dot ∷ ms) = largestMark ms
+largestMark (token (number v) ∷ ms) = max v (largestMark ms)
+largestMark (foreign ∷ ms) = largestMark ms
+
 -- below all lists is the text itself, which has no elements
 abbrev pub Based : List Frame → Type 0
 Based [] = ⊥
@@ -47,7 +56,7 @@ Based (f ∷ g ∷ fs) = Based (g ∷ fs)
 
 -- the innermost list in another mode, and so many pairs more
 abbrev pub grownBy : Scan → ℕ → ℕ → Scan
-grownBy s mode more = record { at = s .at; mode = mode; brackets = s .brackets; deep = s .deep; pairs = s .pairs + more }
+grownBy s mode more = record { at = s .at; mode = mode; brackets = s .brackets; deep = s .deep; pairs = s .pairs + more; largest = s .largest }
 
 -- what has been read but not yet taken: nothing, a token, or a datum that a token completed
 pub data Pending : Type 0 where
@@ -64,6 +73,12 @@ abbrev pub pendingPairs : Pending → ℕ
 pendingPairs nothing = 0
 pendingPairs (mark k) = 0
 pendingPairs (datum t) = pairs t
+
+-- a pending token as a mark; the values of a datum have been taken with its tokens
+abbrev pub pendingMarks : Pending → List Mark
+pendingMarks nothing = []
+pendingMarks (mark k) = token k ∷ []
+pendingMarks (datum t) = []
 
 -- a token, and so a datum that it completed, has a byte
 abbrev pub pendingBytes : Pending → ℕ
@@ -96,6 +111,7 @@ pub record Scanning (text words : List ℕ) (s : Scan) (p : Pending) : Type 0 wh
   pub parsed : parse text ≡ treeOf (parsedFrom (taken p frames) (marksOf (drop (s .at) text)))
   pub deep : tooDeep 0 text ≡ (s .deep || deepFrom p (s .brackets) (drop (s .at) text))
   pub counted : s .pairs ≡ openPairs frames + pendingPairs p
+  pub values : largestMark (marksOf text) ≡ max (s .largest) (largestMark (pendingMarks p ++ marksOf (drop (s .at) text)))
   -- each pair and each open bracket has a byte of its own
   pub short : length text ≤ mostText
   pub inside : s .at ≤ length text

@@ -18,8 +18,8 @@ pub enum Scanned {
     Outside,
     // More than 32 brackets are open together.
     TooDeep,
-    // The pairs that the text's tree has.
-    Pairs(u16),
+    // What the text means: how many pairs, and the largest value of its atoms, 0 where it has none.
+    Tree { pairs: u16, largest: u16 },
 }
 
 // One pass, token by token.

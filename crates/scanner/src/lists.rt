@@ -6,7 +6,7 @@ use crate::tokens::token_at;
 ghost use mathlib.Core.Path.{_≡_};
 ghost use mathlib.Core.Bool.{_||_};
 ghost use mathlib.Core.List.{List};
-ghost use Prim.Native.Nat.{ℕ, _+_, _≤_, _<_};
+ghost use Prim.Native.Nat.{ℕ, _+_, _≤_, _<_, max};
 ghost use lib.Dec.{eqb};
 ghost use lib.ListN.{length};
 ghost use Rattle.notation.specs.Trees.{Tree};
@@ -41,6 +41,8 @@ pub struct Scan {
     pub deep: bool,
     // The pairs of what was read so far.
     pub pairs: u16,
+    // The largest value of an atom so far, 0 where there was none.
+    pub largest: u16,
 }
 
 // What a token leads to: a text that may go on, or one outside the notation.
@@ -59,6 +61,7 @@ pub fn start() -> Scan
         brackets: 0,
         deep: false,
         pairs: 0,
+        largest: 0,
     }
 }
 
@@ -140,6 +143,15 @@ fn close_list(words: &mut [u64; modes::WORDS], s: Scan) -> Taken
     deliver(n)
 }
 
+fn larger(a: u16, b: u16) -> u16
+    ensures { λ r. ⌜ r ≡ max a b ⌝ }
+{
+    if a < b {
+        return b;
+    }
+    a
+}
+
 pub fn take_token(text: &[u8], words: &mut [u64; modes::WORDS], s: Scan) -> Taken
     requires { ⌜ Scanning (now text) (now words) s nothing × (s .at < length (now text)) ⌝ }
     ensures { λ r. ⌜ TakenOf (now (text .entry)) (now (words .exit)) (s .at + 1) r ⌝ }
@@ -154,7 +166,10 @@ pub fn take_token(text: &[u8], words: &mut [u64; modes::WORDS], s: Scan) -> Take
         Token::Opening => open_list(words, n),
         Token::Closing => close_list(words, n),
         Token::Dot => put_dot(n),
-        Token::Number(_) => deliver(n),
+        Token::Number(v) => {
+            n.largest = larger(s.largest, v);
+            deliver(n)
+        }
         Token::Foreign => Taken::Outside,
     }
 }
@@ -172,5 +187,8 @@ pub fn judge(s: Scan) -> Scanned
     if s.deep {
         return Scanned::TooDeep;
     }
-    Scanned::Pairs(s.pairs)
+    Scanned::Tree {
+        pairs: s.pairs,
+        largest: s.largest,
+    }
 }

@@ -12,4 +12,4 @@ use Rattle.session_lines.specs.Known.{Known}
 
 pub known : Known
 unfolding computes listingWith listed called split sameBytes numberFrom numberOf withNone withOne withTwo byWords requestOf digits outputLine
-known = (refl, (refl, (refl, (refl, (refl, (refl, (refl, (refl, (refl, (refl, (refl, (refl, tt))))))))))))
+known = (refl, (refl, (refl, (refl, (refl, (refl, (refl, (refl, (refl, (refl, (refl, (refl, (refl, tt)))))))))))))

@@ -22,7 +22,8 @@ case input output = record { input = text input; output = text output }
 abbrev more : List String → List String → Case
 more input output = case ("fresh 3" ∷ "cons 0 32775" ∷ input) ("1 OK 0" ∷ "2 OK 1" ∷ output)
 
--- K1; K2 and K3; K4 to K11, the last as document 02 (A1) has it; reads of nil before and after a fresh; and lines that are no calls
+-- K1; K2 and K3; K4 to K11, the last as document 02 (A1) has it; reads of nil before and after a fresh; clipped
+-- readings (A5); and lines that are no calls
 abbrev pub cases : List Case
 cases =
     case
@@ -38,6 +39,7 @@ cases =
     ∷ more ("cdr 1" ∷ "step" ∷ "step" ∷ []) ("3 OK 32775" ∷ "4 OK 0" ∷ "5 OK 1" ∷ [])
     ∷ more ("car 0" ∷ []) ("3 OK 0" ∷ [])
     ∷ case ("cdr 0" ∷ "fresh 1" ∷ "car 0" ∷ "cdr 0" ∷ "up 0 1" ∷ "step" ∷ []) ("1 NO 1" ∷ "2 OK 0" ∷ "3 OK 0" ∷ "4 OK 0" ∷ "5 NO 5" ∷ "6 IDLE" ∷ [])
+    ∷ case ("fresh 2" ∷ "cons 36862 0" ∷ "cons 36863 0" ∷ "setl 1 65535" ∷ "setl 36863 36863" ∷ []) ("1 OK 0" ∷ "2 OK 1" ∷ "3 NO 14" ∷ "4 NO 14" ∷ "5 NO 5" ∷ [])
     ∷ case ("step" ∷ "" ∷ "audit" ∷ "fresh 03" ∷ "fresh  3" ∷ "fresh 3 " ∷ "fresh 65536" ∷ []) ("1 NO 1" ∷ "2 BAD" ∷ "3 BAD" ∷ "4 BAD" ∷ "5 BAD" ∷ "6 BAD" ∷ "7 BAD" ∷ [])
     ∷ []
 

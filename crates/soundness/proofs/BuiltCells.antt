@@ -11,15 +11,15 @@ use borrow.Author.Tests.{eqb-true, eqb-false, lt-ltb, le-leb, lt-leb}
 use Rattle.notation.specs.Trees.{Tree, nil, atom, pair, largestValue, Values, pairs}
 use Rattle.machine.specs.declared.Queue.{Queue}
 use Rattle.machine.specs.Range.{total, select, matching, occurrences, everyOf}
-use Rattle.machine.specs.Words.{isNil, isCell, isAtom, isLegal, firstAtom, largestWord, ceiling, mostCells}
+use Rattle.machine.specs.Words.{isNil, isCell, isAtom, isLegal, mayBeStored, firstAtom, largestWord, ceiling, mostCells}
 use Rattle.machine.specs.Table.{left, right, rootCount, cellCount, capacity, firstFree, wordAt, inUse, isFree}
 use Rattle.machine.specs.Queue.{Packet, packet, slots, putSlot, appended, waiting}
 use Rattle.machine.specs.Packets.{kindOf, root, cell, plus, minus, changesOf, changes, movedBy, usesOf, uses, waitingChange}
 use Rattle.machine.specs.Counts.{heldAtLeast, pointers}
 use Rattle.machine.specs.Calls.{cons, row, value, Store, store, field, packetOf, readsNil, written, valueOf}
 use Rattle.machine.specs.Step.{Outcome, outcome}
-use Rattle.machine.specs.Texts.{Built, built, builtPair, buildBy, leaf, OpensOut, ends, opens}
-use Rattle.machine.specs.Questions.{firstNo, wordsLegal, heldEnough, slotEmpty, cellFree, heldWithin, pointersWithin, earlyRow, early, askFree, late, lateRow, questions}
+use Rattle.machine.specs.Texts.{Built, built, builtPair, buildBy, atomsStorable, leaf, OpensOut, ends, opens}
+use Rattle.machine.specs.Questions.{firstNo, wordsLegal, wordsStorable, heldEnough, slotEmpty, cellFree, heldWithin, pointersWithin, earlyRow, early, askFree, late, lateRow, questions}
 use Rattle.machine.specs.Audit.{Sound}
 use Rattle.machine.specs.Facts.{Chain}
 use Rattle.machine.specs.Machine.{refusedOr, acceptedRow, consed}
@@ -56,6 +56,7 @@ freeCells t = length (select (capacity t) (isFree t))
 pub record Ready (t : List ℕ) (q : Queue) (ws : List ℕ) : Type 0 where
   pub whole : Whole t q
   pub legal : wordsLegal t ws ≡ true
+  pub storable : wordsStorable ws ≡ true
   pub held : (i : ℕ) → i < capacity t
       → waitingChange root minus (suc i) (waiting q) + occurrences (suc i) ws ≤ wordAt t i rootCount + waitingChange root plus (suc i) (waiting q)
   pub pointed : (i : ℕ) → i < capacity t → pointers t (suc i) + occurrences (suc i) ws ≤ ceiling
@@ -97,6 +98,20 @@ waiting-fit t q w ws r e some = record {
   used = λ i l d. counted-used t (waiting q) (sound-facts t q (r .whole .sound)) i l (omega (arith, r .held i l, some i d));
 }
 
+-- what is so of all words that wait is so of the two that a cons takes, and of the others
+first-two : (a b c : Bool) → a && (b && c) ≡ true → b && (a && true) ≡ true
+first-two true true c h = refl
+first-two true false c h = h
+first-two false b c h = absurd (let z : _≡_ {A = ℕ} 0 1 = cc in omega arith)
+
+past-two : (a b c : Bool) → a && (b && c) ≡ true → c ≡ true
+past-two a b c h = and-second b c (and-second a (b && c) h)
+
+-- only an atom can be kept out
+pub cell-storable : (w : ℕ) → w ≤ mostCells → mayBeStored w ≡ true
+unfolding mayBeStored isAtom
+cell-storable w h = rw (lt-leb firstAtom w (omega arith))
+
 -- one cons of two words that wait
 module _ (s : Store) (x y : ℕ) (ws : List ℕ) (r : Ready (s .table) (s .queue) (y ∷ x ∷ ws)) (slot : s .queue .count < slots) (free : cellFree (s .table) ≡ true) where
   abbrev t : List ℕ
@@ -133,12 +148,11 @@ module _ (s : Store) (x y : ℕ) (ws : List ℕ) (r : Ready (s .table) (s .queue
 
   legal-words : wordsLegal t (x ∷ y ∷ []) ≡ true
   unfolding wordsLegal everyOf
-  legal-words = both (isLegal (capacity t) y) (isLegal (capacity t) x) (everyOf ws (isLegal (capacity t))) (r .legal)
-    where
-      both : (a b c : Bool) → a && (b && c) ≡ true → b && (a && true) ≡ true
-      both true true c h = refl
-      both true false c h = h
-      both false b c h = absurd (let z : _≡_ {A = ℕ} 0 1 = cc in omega arith)
+  legal-words = first-two (isLegal (capacity t) y) (isLegal (capacity t) x) (everyOf ws (isLegal (capacity t))) (r .legal)
+
+  storable-words : wordsStorable (x ∷ y ∷ []) ≡ true
+  unfolding wordsStorable everyOf
+  storable-words = first-two (mayBeStored y) (mayBeStored x) (everyOf ws mayBeStored) (r .storable)
 
   held : HeldFor t ps p
   held i l = inr (omega (arith, r .held i l, waits i, named i))
@@ -150,7 +164,7 @@ module _ (s : Store) (x y : ℕ) (ws : List ℕ) (r : Ready (s .table) (s .queue
 
   early-yes : AllYes (earlyRow t (cons x y))
   unfolding earlyRow
-  early-yes = (legal-words, tt)
+  early-yes = (legal-words, (storable-words, tt))
 
   free-yes : AllYes (askFree t (cons x y))
   unfolding askFree
@@ -179,7 +193,7 @@ module _ (s : Store) (x y : ℕ) (ws : List ℕ) (r : Ready (s .table) (s .queue
   pub cons-asked : firstNo (questions s (row (cons x y))) ≡ 0
   unfolding questions early earlyRow late lateRow readsNil askFree slotEmpty
   cons-asked = firstNo-zero (questions s (row (cons x y)))
-      (sound .shape, (legal-words, (six, (lt-ltb (q .count) slots slot, (free, (nine, (ten, tt)))))))
+      (sound .shape, (legal-words, (storable-words, (six, (lt-ltb (q .count) slots slot, (free, (nine, (ten, tt))))))))
 
   pub consed-is : consed s x y ≡ outcome (value new) (store u (appended q p) (s .scratch))
   unfolding consed readsNil valueOf
@@ -255,16 +269,19 @@ module _ (s : Store) (x y : ℕ) (ws : List ℕ) (r : Ready (s .table) (s .queue
   next-legal =
       let w = new-index in
       let new-legal : isLegal (capacity t) new ≡ true = rw (w .1) (cell-legal (capacity t) (suc (w .0)) (index-cell (capacity t) (w .0) (w .2))) in
-      rw same (and-both new-legal
-      (last (isLegal (capacity t) y) (isLegal (capacity t) x) (everyOf ws (isLegal (capacity t))) (r .legal)))
-    where
-      last : (a b c : Bool) → a && (b && c) ≡ true → c ≡ true
-      last a b c h = and-second b c (and-second a (b && c) h)
+      rw same (and-both new-legal (past-two (isLegal (capacity t) y) (isLegal (capacity t) x) (everyOf ws (isLegal (capacity t))) (r .legal)))
+
+  next-storable : wordsStorable (new ∷ ws) ≡ true
+  unfolding wordsStorable everyOf
+  next-storable =
+      let w = new-index in
+      and-both (cell-storable new (omega (arith, w .1, w .2, f .most))) (past-two (mayBeStored y) (mayBeStored x) (everyOf ws mayBeStored) (r .storable))
 
   pub cons-ready : Ready u (appended q p) (new ∷ ws)
   cons-ready = record {
     whole = record { sound = row-sound s (cons x y) (unfold readsNil in refl) sound (r .whole .arrays) cons-asked; arrays = arrays-appended q p (r .whole .arrays) };
     legal = next-legal;
+    storable = next-storable;
     held = rw same (λ (i : ℕ) (l : i < capacity t). omega (arith, cons-gains i l, r .held i l, waits i, goes-on i));
     pointed = rw same next-pointed;
   }
@@ -316,14 +333,15 @@ pub record BuiltReady (s : Store) (ws : List ℕ) (tree : Tree) (b : Built) : Ty
   pub gains : (i : ℕ) → i < capacity (s .table) → Gains (s .table) (s .queue) (b .after .table) (b .after .queue) (b .word) i
 
 -- a word that is no cell
-leaf-ready : (s : Store) (ws : List ℕ) (w : ℕ) (tree : Tree) → Ready (s .table) (s .queue) ws → isLegal (capacity (s .table)) w ≡ true
+leaf-ready : (s : Store) (ws : List ℕ) (w : ℕ) (tree : Tree) → Ready (s .table) (s .queue) ws → isLegal (capacity (s .table)) w ≡ true → mayBeStored w ≡ true
     → ((i : ℕ) → i < capacity (s .table) → matching w (suc i) 1 ≡ 0) → isCell (capacity (s .table)) w ≡ false → leaf w ≡ tree → pairs tree ≡ 0
     → BuiltReady s ws tree (built w s)
-unfolding wordsLegal everyOf occurrences
-leaf-ready s ws w tree r e none c d z = record {
+unfolding wordsLegal wordsStorable everyOf occurrences
+leaf-ready s ws w tree r e m none c d z = record {
   ready = record {
     whole = r .whole;
     legal = and-both e (r .legal);
+    storable = and-both m (r .storable);
     held = λ i l. omega (arith, r .held i l, none i l);
     pointed = λ i l. omega (arith, r .pointed i l, none i l);
   };
@@ -396,34 +414,35 @@ pair-ready s ws m n a d x y slot free =
     )
 
 -- on a sound store with cells and slots enough every cons is accepted
-pub tree-ready : (s : Store) (ws : List ℕ) (tree : Tree) → Values tree → Ready (s .table) (s .queue) ws → s .queue .count + pairs tree ≤ slots
+pub tree-ready : (s : Store) (ws : List ℕ) (tree : Tree) → Values tree → atomsStorable tree ≡ true → Ready (s .table) (s .queue) ws → s .queue .count + pairs tree ≤ slots
     → pairs tree ≤ freeCells (s .table) → AllAccepted s tree × BuiltReady s ws tree (buildBy consed s tree)
-unfolding buildBy
-tree-ready s ws nil v r slot free =
-    (tt, leaf-ready s ws 0 nil r (nil-legal (capacity (s .table))) (λ i l. nil-no-cell i) (unfold isCell in refl) (unfold leaf isAtom in refl) (unfold pairs in refl))
-tree-ready s ws (atom n) v r slot free =
+unfolding buildBy atomsStorable
+tree-ready s ws nil v m r slot free =
+    (tt, leaf-ready s ws 0 nil r (nil-legal (capacity (s .table))) (cell-storable 0 (omega arith)) (λ i l. nil-no-cell i) (unfold isCell in refl) (unfold leaf isAtom in refl) (unfold pairs in refl))
+tree-ready s ws (atom n) v m r slot free =
     let most = sound-facts (s .table) (s .queue) (r .whole .sound) .most in (
       tt,
-      leaf-ready s ws (firstAtom + n) (atom n) r (atom-legal (capacity (s .table)) n v)
+      leaf-ready s ws (firstAtom + n) (atom n) r (atom-legal (capacity (s .table)) n v) m
           (λ i l. matching-other (firstAtom + n) (suc i) 1 (λ e. omega arith)) (atom-no-cell (capacity (s .table)) n most) (atom-leaf n v) (unfold pairs in refl),
     )
-tree-ready s ws (pair a d) v r slot free =
+tree-ready s ws (pair a d) v m r slot free =
     let x = buildBy consed s a in
     let y = buildBy consed (x .after) d in
     let n = pairs-pair a d in
-    let first = tree-ready s ws a (v .0) r (omega arith) (omega arith) in
-    let second = tree-ready (x .after) (x .word ∷ ws) d (v .1) (first .1 .ready) (omega (arith, first .1 .count)) (omega (arith, first .1 .frees)) in
+    let first = tree-ready s ws a (v .0) (and-first (atomsStorable a) (atomsStorable d) m) r (omega arith) (omega arith) in
+    let second = tree-ready (x .after) (x .word ∷ ws) d (v .1) (and-second (atomsStorable a) (atomsStorable d) m) (first .1 .ready) (omega (arith, first .1 .count)) (omega (arith, first .1 .frees)) in
     let both = pair-ready s ws a d x y (first .1) (second .1) slot free in
     ((first .0, second .0, both .0), both .1)
 
 -- where nothing waits yet
 pub none-wait : (t : List ℕ) (q : Queue) → Whole t q → Ready t q []
-unfolding wordsLegal everyOf occurrences
+unfolding wordsLegal wordsStorable everyOf occurrences
 none-wait t q w =
     let f = sound-facts t q (w .sound) in
     record {
       whole = w;
       legal = refl;
+      storable = refl;
       held = λ i l. omega (arith, final-sum (suc i) (wordAt t i rootCount) (waiting q) (f .replay i l));
       pointed = λ i l. omega (arith, pointers-most t q (w .sound) i l);
     }

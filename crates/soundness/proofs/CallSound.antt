@@ -1,24 +1,25 @@
 -- Every call of the machine leaves a sound store sound, accepted or refused; and an accepted fresh makes any store sound.
 use mathlib.Core.Path.{_≡_, refl, sym, _∙_}
 use mathlib.Core.Logic.{inl}
+use mathlib.Core.Bool.{true}
 use mathlib.Core.List.{List, [], _∷_}
 use Prim.Native.Nat.{ℕ, suc, _+_, _≤_}
 use native.Mathlib.Omega.{arith}
 use lib.Dec.{leb}
 use lib.ListN.{length}
 use borrow.Author.Tests.{leb-true}
-use Rattle.notation.specs.Trees.{Values, pairs}
+use Rattle.notation.specs.Trees.{Tree, nil, atom, pair, Values, pairs}
 use Rattle.notation.specs.Parse.{parse, Parsed, tree, none, meaning}
 use Rattle.notation.proofs.Theorems.{values-read}
 use Rattle.machine.specs.Words.{mostCells}
 use Rattle.machine.specs.Table.{tableLength}
 use Rattle.machine.specs.Queue.{Packet, slots, emptyQueue, waiting}
-use Rattle.machine.specs.Calls.{Call, fresh, row, step, audit, read, write, Reply, value, refused, Store, packetOf, freshTable}
+use Rattle.machine.specs.Calls.{Call, fresh, row, step, audit, read, write, cons, Reply, value, refused, Store, packetOf, freshTable}
 use Rattle.machine.specs.Step.{stepWith, stepFrom, stepped}
-use Rattle.machine.specs.Questions.{firstNo, cellsInRange, longEnough, textPairs, slotsEmpty, cellsFree, early, late, questions}
+use Rattle.machine.specs.Questions.{firstNo, cellsInRange, longEnough, textStorable, textPairs, slotsEmpty, cellsFree, early, late, questions}
 use Rattle.machine.specs.Audit.{Sound, audited}
-use Rattle.machine.specs.Texts.{buildBy}
-use Rattle.machine.specs.Machine.{consed, textRead, accepted, machine}
+use Rattle.machine.specs.Texts.{buildBy, atomsStorable}
+use Rattle.machine.specs.Machine.{consed, textRead, accepted, answered, machine}
 use Rattle.machine.specs.Promise.{Decided, Promise}
 use Rattle.machine.proofs.Range.{and-first, and-second}
 use Rattle.machine.proofs.Ring.{arrays-appended, arrays-taken}
@@ -60,16 +61,18 @@ step-whole s w (p ∷ ps) e = record { sound = step-sound (s .table) (s .queue) 
 
 -- the questions of a text read, as facts
 pub record ReadYes (s : Store) (text : List ℕ) : Type 0 where
+  pub storable : atomsStorable (meaning (parse text)) ≡ true
   pub slot : s .queue .count + pairs (meaning (parse text)) ≤ slots
   pub free : pairs (meaning (parse text)) ≤ freeCells (s .table)
 
 pub read-yes : (s : Store) (text : List ℕ) → firstNo (questions s (read text)) ≡ 0 → ReadYes s text
-unfolding questions late textPairs slotsEmpty cellsFree
+unfolding questions early late textStorable textPairs slotsEmpty cellsFree
 read-yes s text h =
     let n = pairs (meaning (parse text)) in
+    let e = early-yes s (read text) h in
     let y = firstNo-all (late s (read text)) (omega arith, (omega arith, tt))
-    (sym (firstNo-none (early s (read text)) (late s (read text)) (early-numbered s (read text)) (firstNo-zero (early s (read text)) (early-yes s (read text) h))) ∙ h) in
-    record { slot = leb-true (s .queue .count + n) slots (y .0); free = leb-true n (freeCells (s .table)) (y .1 .0) }
+    (sym (firstNo-none (early s (read text)) (late s (read text)) (early-numbered s (read text)) (firstNo-zero (early s (read text)) e)) ∙ h) in
+    record { storable = e .1 .1 .1 .0; slot = leb-true (s .queue .count + n) slots (y .0); free = leb-true n (freeCells (s .table)) (y .1 .0) }
 
 -- a text's tree has values that are atoms
 pub meaning-values : (text : List ℕ) → Values (meaning (parse text))
@@ -84,7 +87,7 @@ pub text-built : (s : Store) (text : List ℕ) → Whole (s .table) (s .queue) �
     → AllAccepted s (meaning (parse text)) × BuiltReady s [] (meaning (parse text)) (buildBy consed s (meaning (parse text)))
 text-built s text w h =
     let y = read-yes s text h in
-    tree-ready s [] (meaning (parse text)) (meaning-values text) (none-wait (s .table) (s .queue) w) (y .slot) (y .free)
+    tree-ready s [] (meaning (parse text)) (meaning-values text) (y .storable) (none-wait (s .table) (s .queue) w) (y .slot) (y .free)
 
 pub accepted-whole : (s : Store) (call : Call) → Whole (s .table) (s .queue) → firstNo (questions s call) ≡ 0
     → Whole (accepted s call .after .table) (accepted s call .after .queue)
@@ -100,6 +103,20 @@ accepted-whole s (write x room) w h = w
 
 pub machine-whole : (s : Store) (call : Call) → Whole (s .table) (s .queue) → Whole (machine s call .after .table) (machine s call .after .queue)
 machine-whole s call w = machine-cases s call (λ o. Whole (o .after .table) (o .after .queue)) (accepted-whole s call w) (λ n e. w)
+
+-- so does a tree that is built by cons, whether each cons is accepted or not
+cons-whole : (s : Store) (x y : ℕ) → Whole (s .table) (s .queue) → Whole (consed s x y .after .table) (consed s x y .after .queue)
+unfolding consed machine answered accepted
+cons-whole s x y w = machine-whole s (row (cons x y)) w
+
+pub built-whole : (s : Store) (t : Tree) → Whole (s .table) (s .queue) → Whole (buildBy consed s t .after .table) (buildBy consed s t .after .queue)
+unfolding buildBy
+built-whole s nil w = w
+built-whole s (atom v) w = w
+built-whole s (pair a d) w =
+    let x = buildBy consed s a in
+    let y = buildBy consed (x .after) d in
+    cons-whole (y .after) (x .word) (y .word) (built-whole (x .after) d (built-whole s a w))
 
 -- on a sound store all that a call gives is decided
 pub decided : (s : Store) (call : Call) → Sound (s .table) (s .queue) → Decided s call

@@ -96,7 +96,7 @@ module _ (t : List ℕ) (q : Queue) (f : Facts t (waiting q)) (g : ℕ → Field
       has i (room t (capacity t) (pred x) (f .room) (cell-index (capacity t) x c)) (cell-number (capacity t) x c)
       (h i (rw (capacity-putWord t (pred x) k y) at l) (sym (used-put t (pred x) k y i m) ∙ u))
 
-  row-put : (r : RowCall) → RowYes t q r → FieldsStand (written t r) (λ c. puts r (valueOf t r) c (g c))
+  pub row-put : (r : RowCall) → RowYes t q r → FieldsStand (written t r) (λ c. puts r (valueOf t r) c (g c))
   unfolding puts earlyRow xIsCell askFree
   row-put (car x) a = unfold written in h
   row-put (cdr x) a = unfold written in h
@@ -147,13 +147,13 @@ step-put t p ps f g h i l u =
       w .1 right (omega arith) ∙ applied-fields t p ps f i right (omega arith) ∙ s .1,
     )
 
-stepped-put : (s : Store) (g : ℕ → Fields) → Whole (s .table) (s .queue) → FieldsStand (s .table) g → (ps : List Packet) → waiting (s .queue) ≡ ps
+pub stepped-put : (s : Store) (g : ℕ → Fields) → Whole (s .table) (s .queue) → FieldsStand (s .table) g → (ps : List Packet) → waiting (s .queue) ≡ ps
     → FieldsStand (stepFrom s ps .after .table) g
 unfolding stepFrom stepWith
 stepped-put s g w h [] e = h
 stepped-put s g w h (p ∷ ps) e = step-put (s .table) p ps (rw e at (sound-facts (s .table) (s .queue) (w .sound))) g h
 
-fresh-put : (s : Store) (c : ℕ) (g : ℕ → Fields) → firstNo (questions s (fresh c)) ≡ 0 → FieldsStand (freshTable c (s .table)) g
+pub fresh-put : (s : Store) (c : ℕ) (g : ℕ → Fields) → firstNo (questions s (fresh c)) ≡ 0 → FieldsStand (freshTable c (s .table)) g
 fresh-put s c g e i l u = absurd (not-both u (fresh-unused c (s .table) (fresh-yes s c e .room) i l))
 
 nil-put : (t : List ℕ) (r : RowCall) → readsNil r ≡ true → (g : ℕ → Fields) → FieldsStand t g → FieldsStand t (λ c. puts r 0 c (g c))

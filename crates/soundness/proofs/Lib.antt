@@ -46,4 +46,5 @@ pub mod ShortcutsBite
 pub mod EitherOrder
 -- what a row programmer can rely on
 pub mod FieldsStand
+pub mod Unclipped
 pub mod Reliable

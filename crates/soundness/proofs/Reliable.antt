@@ -26,7 +26,7 @@ use Rattle.machine.proofs.Questions.{firstNo-zero, firstNo-other}
 use Rattle.machine.proofs.Kept.{machine-accepted, machine-cases, gives-machine}
 use Rattle.machine.proofs.NilReads.{only-nil, row-cases}
 use Rattle.soundness.specs.Demand3.{Link, Joined, tableAfter, queueAfter, Holds, holds, moved, holdsAfter, Held}
-use Rattle.soundness.specs.Reliable.{Fields, fields, put, fieldsAfter, FieldsStand, RepliesField, Steps, ReadsBack, Told, EndsInNil, NewIsFree, HeldByHolds, Drains, FullOfHeld, ReadsText, Relied, Reliable}
+use Rattle.soundness.specs.Reliable.{Fields, fields, put, fieldsAfter, FieldsStand, RepliesField, Steps, ReadsBack, Told, EndsInNil, NewIsFree, HeldByHolds, Drains, FullOfHeld, ReadsText, NoneClipped, Relied, Reliable}
 use Rattle.soundness.proofs.Facts.{sound-facts}
 use Rattle.soundness.proofs.FreeChain.{chain-some}
 use Rattle.soundness.proofs.RowQuestions.{row-yes}
@@ -36,6 +36,7 @@ use Rattle.soundness.proofs.CallSound.{decided, value-accepted, text-bu
 use Rattle.soundness.proofs.RootsAreHolds.{Agrees, nil-moves}
 use Rattle.soundness.proofs.Theorem.{promise-agrees, from-held, exact-when-done, covered}
 use Rattle.soundness.proofs.FieldsStand.{row-replies, nil-replies, promise-put, fields-stand}
+use Rattle.soundness.proofs.Unclipped.{none-clipped}
 
 same-value : (m n : ℕ) → value m ≡ value n → m ≡ n
 same-value m n e = cc
@@ -191,7 +192,7 @@ module _ (t : List ℕ) (q : Queue) (h : ℕ → Holds) (a : Agrees t q h) where
             (λ e. absurd (omega arith)),
             (
               (λ e. absurd (omega arith)),
-              ((λ e. free), ((λ e. absurd (omega arith)), ((λ e. absurd (omega arith)), tt))),
+              ((λ e. absurd (omega arith)), ((λ e. free), ((λ e. absurd (omega arith)), ((λ e. absurd (omega arith)), tt)))),
             ),
           ),
         ),
@@ -217,19 +218,20 @@ module _ (t : List ℕ) (q : Queue) (h : ℕ → Holds) (a : Agrees t q h) where
       let b = text-built (store t q s) bytes (a .whole) (k .asked) .1 in
       rw (k .after) (rw (same-value _ w (k .reply)) at (b .opens), b .stands)
 
-  relied : Relied t q h
-  relied = record {
+  relied : NoneClipped t → Relied t q h
+  relied unclipped = record {
     ends-in-nil = ends-in-nil;
     new-is-free = new-is-free;
     held-by-holds = held-by-holds;
     drains = drains;
     full-of-held = full-of-held;
     reads-text = reads-text;
+    none-clipped = unclipped;
   }
 
 pub reliable : Reliable
 reliable t q ls b j =
     let a = covered t q ls b j in (
-      relied (tableAfter t ls) (queueAfter q ls) (holdsAfter ls) a,
+      relied (tableAfter t ls) (queueAfter q ls) (holdsAfter ls) a (none-clipped t q ls b j),
       λ n. told (tableAfter t ls) (queueAfter q ls) (holdsAfter ls) (fieldsAfter ls) a (fields-stand t q ls b j n),
     )

@@ -8,7 +8,7 @@ use lib.Dec.{eqb}
 use lib.ListN.{length}
 use Rattle.notation.specs.Parse.{parse, meaning}
 use Rattle.machine.specs.declared.Queue.{Queue}
-use Rattle.machine.specs.Words.{isNil}
+use Rattle.machine.specs.Words.{isNil, mayBeStored}
 use Rattle.machine.specs.Table.{left, right, capacity, scratchWords, wordAt, inUse, isFree}
 use Rattle.machine.specs.Queue.{waiting}
 use Rattle.machine.specs.Counts.{heldAtLeast}
@@ -101,6 +101,10 @@ pub record Stands (t u : List ℕ) : Type 0 where
   pub used : (i : ℕ) → i < capacity t → inUse t i ≡ true → inUse u i ≡ true
   pub fields : (i k : ℕ) → i < capacity t → k ≤ right → inUse t i ≡ true → wordAt u i k ≡ wordAt t i k
 
+-- No cell in use contains a clipped reading (document 02, A5).
+abbrev pub NoneClipped : List ℕ → Type 0
+NoneClipped t = (i : ℕ) → i < capacity t → inUse t i ≡ true → (mayBeStored (wordAt t i left) ≡ true) × (mayBeStored (wordAt t i right) ≡ true)
+
 -- Of a table t and a queue q, where h gives the holds of each cell.
 module _ (t : List ℕ) (q : Queue) (h : ℕ → Holds) where
   -- At the end of a list a read of nil replies nil, whatever waits and whatever is held, and leaves the store and every cell's holds as they were.
@@ -140,6 +144,7 @@ module _ (t : List ℕ) (q : Queue) (h : ℕ → Holds) where
     pub drains : Drains
     pub full-of-held : FullOfHeld
     pub reads-text : ReadsText
+    pub none-clipped : NoneClipped t
 
 -- After any list of calls from an accepted fresh; what was put into the fields is told of lists in which no text is read.
 abbrev pub Reliable : Type 0

@@ -3,18 +3,18 @@ use mathlib.Core.Path.{_≡_, refl, sym, ap, ap₂, _∙_}
 use mathlib.Core.Logic.{inl, inr, ⊎-elim}
 use mathlib.Core.Bool.{Bool, true, false, _&&_}
 use mathlib.Core.List.{List, [], _∷_, _++_}
-use Prim.Native.Nat.{ℕ, zero, suc, pred, _+_, _≤_, _<_}
+use Prim.Native.Nat.{ℕ, zero, suc, pred}
 use native.Mathlib.Omega.{arith}
 use lib.Dec.{leb, leb·zero, leb·suc-zero, leb·suc-suc}
 use lib.ListN.{length}
-use Rattle.notation.specs.Trees.{Tree, nil, atom, pair, Values, pairs}
+use Rattle.notation.specs.Trees.{Tree, nil, atom, pair, pairs}
 use Rattle.notation.specs.Parse.{parse, meaning}
 use Rattle.machine.specs.declared.Queue.{Queue}
 use Rattle.machine.specs.declared.RowAnswer.{RowAnswer}
 use Rattle.machine.specs.Range.{select}
 use Rattle.machine.specs.Words.{isCell}
 use Rattle.machine.specs.Table.{left, capacity, firstFree, wordAt, isFree}
-use Rattle.machine.specs.Queue.{Arrays, slots}
+use Rattle.machine.specs.Queue.{Arrays}
 use Rattle.machine.specs.Packets.{contains}
 use Rattle.machine.specs.Calls.{cons, row, read, value, refused, Store, store, field}
 use Rattle.machine.specs.Step.{Outcome, outcome}
@@ -30,9 +30,8 @@ use Rattle.machine.proofs.Questions.{firstNo-append, firstNo-none, firstNo-numb
 use Rattle.machine.proofs.Kept.{untouched-trans, unmoved, untouched-built, machine-accepted, machine-refused}
 use Rattle.soundness.specs.Whole.{Whole}
 use Rattle.soundness.proofs.Facts.{sound-facts}
-use Rattle.soundness.proofs.BuiltCells.{freeCells, Ready, BuiltReady, tree-ready, none-wait}
 use Rattle.soundness.proofs.FreeCells.{chain-length}
-use Rattle.soundness.proofs.CallSound.{meaning-values, ReadYes, read-yes}
+use Rattle.soundness.proofs.CallSound.{built-whole}
 use Rattle.calls.specs.Tests.{codeQuestions}
 use Rattle.calls.specs.Called.{outcomeOf}
 use Rattle.reader.specs.Builds.{codeCons}
@@ -69,23 +68,19 @@ no-words [] e = refl
 no-words (x ∷ l) e = absurd (omega arith)
 
 -- and so is all that it builds
-built-same : (s : Store) (ws : List ℕ) (tree : Tree) → s .scratch ≡ [] → Values tree → Ready (s .table) (s .queue) ws
-    → s .queue .count + pairs tree ≤ slots → pairs tree ≤ freeCells (s .table) → buildBy codeCons s tree ≡ buildBy consed s tree
-unfolding buildBy pairs
-built-same s ws nil e v r slot free = refl
-built-same s ws (atom n) e v r slot free = refl
-built-same s ws (pair a d) e v r slot free =
+built-same : (s : Store) (tree : Tree) → s .scratch ≡ [] → Whole (s .table) (s .queue) → buildBy codeCons s tree ≡ buildBy consed s tree
+unfolding buildBy
+built-same s nil e w = refl
+built-same s (atom n) e w = refl
+built-same s (pair a d) e w =
     let x = buildBy consed s a in
     let y = buildBy consed (x .after) d in
-    let first = tree-ready s ws a (v .0) r (omega arith) (omega arith) .1 in
+    let between = built-whole s a w in
     let empty : x .after .scratch ≡ [] = no-words (x .after .scratch) (untouched-built s a .scratchLength ∙ ap length e) in
-    let room : x .after .queue .count + pairs d ≤ slots = omega (arith, first .count) in
-    let some : pairs d ≤ freeCells (x .after .table) = omega (arith, first .frees) in
-    let second = tree-ready (x .after) (x .word ∷ ws) d (v .1) (first .ready) room some .1 in
     let last : y .after .scratch ≡ [] = no-words (y .after .scratch) (untouched-built (x .after) d .scratchLength ∙ ap length empty) in
-    ap (λ (b : Built). after-left b d) (built-same s ws a e (v .0) r (omega arith) (omega arith))
-    ∙ ap (λ (b : Built). after-both x b) (built-same (x .after) (x .word ∷ ws) d empty (v .1) (first .ready) room some)
-    ∙ ap builtPair (cons-same (y .after) (x .word) (y .word) last (second .ready .whole))
+    ap (λ (b : Built). after-left b d) (built-same s a e w)
+    ∙ ap (λ (b : Built). after-both x b) (built-same (x .after) d empty between)
+    ∙ ap builtPair (cons-same (y .after) (x .word) (y .word) last (built-whole (x .after) d between))
   where
     after-both : Built → Built → Built
     after-both x y = builtPair (codeCons (y .after) (x .word) (y .word))
@@ -187,9 +182,8 @@ module _ (t : List ℕ) (q : Queue) (bytes : List ℕ) (a : RowAnswer) (t′ : L
       go (suc n) d = rw (machine-refused s (read bytes) n (same ∙ d)) (refused-whole n d)
 
   sound-same : Arrays q → Sound t q → (rowReply a ≡ machine s (read bytes) .reply) × (s′ ≡ machine s (read bytes) .after)
-  sound-same arrays sound = read-same (free-same t q sound (textPairs bytes)) (λ e.
-      let y = read-yes s bytes e in
-      built-same s [] (meaning (parse bytes)) refl (meaning-values bytes) (none-wait t q (record { sound = sound; arrays = arrays })) (y .slot) (y .free))
+  sound-same arrays sound =
+      read-same (free-same t q sound (textPairs bytes)) (λ _. built-same s (meaning (parse bytes)) refl (record { sound = sound; arrays = arrays }))
 
   -- a text without pairs takes no cell
   leaf-same : textPairs bytes ≡ 0 → (rowReply a ≡ machine s (read bytes) .reply) × (s′ ≡ machine s (read bytes) .after)

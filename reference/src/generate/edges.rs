@@ -3,6 +3,7 @@
 
 use std::io;
 
+use super::atoms::{self, FIRST_CLIPPED};
 use super::damaged::sample;
 use super::follower::{nil_read, Follower};
 use super::list::List;
@@ -13,13 +14,15 @@ use crate::queue::Packet;
 use crate::store::Store;
 use crate::table::*;
 
-/// Each call once; only fresh may get past question 1. The reads of nil stand
-/// where they are decided even if the store does pass it.
+/// Each call once; only fresh may get past question 1. The reads of nil and the
+/// clipped readings stand where they are decided even if the store does pass it.
 fn every_call(list: &mut List, title: &str, store: &Store) -> io::Result<()> {
     list.title(title)?;
     list.store(store)?;
     list.brief(Call::Car(0))?;
     list.brief(Call::Cdr(0))?;
+    list.brief(Call::Cons(0, FIRST_CLIPPED))?;
+    list.brief(Call::ReplaceLeft(1, u16::MAX))?;
     for call in [
         Call::Audit,
         Call::Step,
@@ -192,10 +195,15 @@ fn garble_queue(rng: &mut Rng, store: &mut Store) {
     store.queue.count = rng.word();
 }
 
+/// Any words, or small ones with clipped readings among them.
 fn garble(rng: &mut Rng, store: &mut Store) {
     let small = rng.one_in(2);
     for word in &mut store.table {
-        *word = if small { rng.word() % 4 } else { rng.word() };
+        *word = match small {
+            true if rng.one_in(6) => atoms::clipped(rng),
+            true => rng.word() % 4,
+            false => rng.word(),
+        };
     }
     store.scratch.fill(rng.word());
     garble_queue(rng, store);
@@ -231,6 +239,7 @@ pub fn garbage(rng: &mut Rng, list: &mut List, cases: usize) -> io::Result<()> {
         list.store(&store)?;
         list.call(Call::Audit)?;
         list.brief(nil_read(rng))?;
+        list.brief(Call::Cons(atoms::clipped(rng), 0))?;
         for _ in 0..3 {
             list.brief(any_call(rng, cells))?;
         }

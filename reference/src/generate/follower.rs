@@ -1,6 +1,7 @@
 //! A store and the holds that its caller has, told from calls and replies
 //! alone, from which the next call is chosen.
 
+use super::atoms;
 use super::rng::Rng;
 use crate::call::{Call, Reply};
 use crate::queue::Queue;
@@ -36,6 +37,9 @@ impl Mix {
         self.read + self.cons + self.replace + self.up + self.down + self.step
     }
 }
+
+/// What `refused_call` has calls for.
+pub const QUESTIONS: [usize; 8] = [3, 4, 5, 6, 7, 8, 9, 14];
 
 pub fn nil_read(rng: &mut Rng) -> Call {
     rng.pick(&[Call::Car(NIL), Call::Cdr(NIL)])
@@ -153,7 +157,7 @@ impl Follower {
     pub fn operand(&self, rng: &mut Rng) -> u16 {
         match rng.below(8) {
             0 | 1 => NIL,
-            2 | 3 => rng.within(FIRST_ATOM, u16::MAX),
+            2 | 3 => atoms::lively(rng),
             _ => self.held_cell(rng).unwrap_or(NIL),
         }
     }
@@ -167,8 +171,8 @@ impl Follower {
         }
     }
 
-    /// A call that is accepted as a rule: only the ceilings can refuse it, and
-    /// a full queue where the mix has no steps.
+    /// A call that is accepted as a rule: only the ceilings can refuse it, a
+    /// clipped reading, and a full queue where the mix has no steps.
     pub fn lively_call(&mut self, rng: &mut Rng, mix: Mix) -> Call {
         // Accepted at any time, with a full queue and with nothing held too.
         if rng.weighted(&[mix.nil_read, mix.without_nil_reads()]) == 0 {
@@ -186,7 +190,7 @@ impl Follower {
             return if self.no_free_cell() {
                 Call::Step
             } else {
-                Call::Cons(NIL, rng.within(FIRST_ATOM, u16::MAX))
+                Call::Cons(NIL, atoms::lively(rng))
             };
         };
         let (cons, down) = match (self.growing, self.no_free_cell()) {
@@ -311,6 +315,22 @@ impl Follower {
             }),
             8 if self.no_free_cell() && !self.queue_full() => {
                 Some(Call::Cons(held.unwrap_or(NIL), NIL))
+            }
+            // Whatever else would refuse the call from question 6 on.
+            14 => {
+                let y = atoms::clipped(rng);
+                let word = self.operand(rng);
+                let cell = rng.within(1, self.cells());
+                Some(rng.pick(&[
+                    Call::Cons(y, word),
+                    Call::Cons(word, y),
+                    Call::Cons(y, cell),
+                    Call::Cons(cell, y),
+                    Call::ReplaceLeft(x, y),
+                    Call::ReplaceRight(x, y),
+                    Call::ReplaceLeft(cell, y),
+                    Call::ReplaceRight(cell, y),
+                ]))
             }
             9 if !self.queue_full() => {
                 let x = held?;

@@ -2,6 +2,7 @@
 
 use std::io::{self, Write};
 
+use super::atoms::FIRST_CLIPPED;
 use crate::call::Call;
 use crate::format::{write_call, write_store, write_text_call};
 use crate::store::Store;
@@ -45,6 +46,8 @@ impl List<'_> {
         self.brief(Call::Up(1, 0))?;
         self.brief(Call::Cons(0, 32_767))?;
         self.brief(Call::Car(32_768))?;
+        self.brief(Call::Cons(FIRST_CLIPPED, 0))?;
+        self.brief(Call::ReplaceRight(1, FIRST_CLIPPED))?;
         self.brief(Call::Cdr(0))?;
         self.call(Call::Step)?;
         self.call(Call::Audit)

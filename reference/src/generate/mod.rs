@@ -3,6 +3,8 @@
 
 use std::io::{self, Write};
 
+pub mod atoms;
+pub mod clipped;
 pub mod damaged;
 pub mod edges;
 pub mod follower;
@@ -44,7 +46,7 @@ pub fn run(arguments: &[&str], mut output: impl Write) -> io::Result<()> {
     output.flush()
 }
 
-pub const LISTS: [&str; 30] = [
+pub const LISTS: [&str; 32] = [
     "s1",
     "s2",
     "s3",
@@ -64,6 +66,7 @@ pub const LISTS: [&str; 30] = [
     "ceilings",
     "rings",
     "wrecks",
+    "clipped",
     "text-short",
     "text-bytes",
     "text-random",
@@ -75,6 +78,7 @@ pub const LISTS: [&str; 30] = [
     "text-back",
     "text-shapes",
     "text-damaged",
+    "text-clipped",
 ];
 
 /// One list; `cases` matters only to those of random cases.
@@ -105,6 +109,7 @@ pub fn write_list(
         "ceilings" => rows::ceilings(rng, list),
         "rings" => rings::rings(list),
         "wrecks" => damaged::wrecks(rng, list, cases),
+        "clipped" => clipped::clipped(rng, list),
         "text-short" => texts::short(rng, list),
         "text-bytes" => texts::bytes(rng, list),
         "text-random" => texts::texts(rng, list, cases),
@@ -116,6 +121,7 @@ pub fn write_list(
         "text-back" => texts::back(rng, list, cases),
         "text-shapes" => texts::shapes(rng, list, cases),
         "text-damaged" => texts::damaged(rng, list, cases),
+        "text-clipped" => texts::clipped(rng, list),
         _ => Err(usage("no such list")),
     }
 }

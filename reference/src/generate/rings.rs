@@ -3,6 +3,7 @@
 
 use std::io;
 
+use super::atoms::{FIRST_CLIPPED, LAST_STORED};
 use super::list::{word, List};
 use crate::call::Call;
 use crate::queue::{self, Packet};
@@ -57,7 +58,11 @@ fn case(list: &mut List, title: &str, store: &Store) -> io::Result<()> {
     for _ in 0..=store.queue.count {
         calls.extend([Call::Step, Call::Audit]);
     }
-    calls.extend([Call::Cons(NIL, NIL), Call::Cons(NIL, u16::MAX), Call::Audit]);
+    calls.extend([
+        Call::Cons(NIL, NIL),
+        Call::Cons(NIL, LAST_STORED),
+        Call::Audit,
+    ]);
     for call in calls {
         if cells < 100 {
             list.call(call)?;
@@ -80,10 +85,10 @@ fn ring(list: &mut List, cells: u16) -> io::Result<()> {
     Ok(())
 }
 
-/// Each cell in the right of the one after it; the last one is held, so that
-/// marking goes against the numbers of the cells.
+/// Each cell in the right of the one after it, with a clipped reading beside it;
+/// the last one is held, so that marking goes against the numbers of the cells.
 fn chain(list: &mut List, cells: u16) -> io::Result<()> {
-    let chain = connected(cells, |x| [FIRST_ATOM, x - 1]);
+    let chain = connected(cells, |x| [FIRST_CLIPPED, x - 1]);
     let up = [queue::UP, cells, 1, 0];
     let down = [queue::DOWN, cells, 2, 0];
     case(list, "chain", &waiting(chain, cells, 1, &[up, down]))

@@ -3,11 +3,12 @@
 
 use std::io;
 
-use super::follower::{Follower, Mix};
+use super::atoms;
+use super::follower::{Follower, Mix, QUESTIONS};
 use super::list::List;
 use super::rng::Rng;
 use super::session::ceiling_calls;
-use super::sound::{any_call, random_mix, random_store};
+use super::sound::{any_call, clipped_store, random_mix};
 use crate::call::Call;
 use crate::queue::Queue;
 use crate::table::*;
@@ -21,7 +22,7 @@ pub fn rows(rng: &mut Rng, list: &mut List, cases: usize) -> io::Result<()> {
             _ => rng.within(1, 9),
         };
         let calls = rng.below(100 + cells as usize);
-        let mut follower = random_store(rng, cells, calls);
+        let mut follower = clipped_store(rng, cells, calls);
         match case % 3 {
             0 => follower.drain(),
             1 => fill_queue(rng, &mut follower),
@@ -60,7 +61,7 @@ fn row_call(rng: &mut Rng, follower: &mut Follower, mix: Mix) -> Call {
     let call = match rng.below(5) {
         0 => any_call(rng, follower.cells()),
         1 | 2 => {
-            let question = 3 + rng.below(7);
+            let question = rng.pick(&QUESTIONS);
             follower.refused_call(rng, question).unwrap_or(Call::Audit)
         }
         _ => follower.lively_call(rng, mix),
@@ -95,7 +96,7 @@ fn fill_queue(rng: &mut Rng, follower: &mut Follower) {
         let mut calls = vec![
             Call::Up(x, rng.within(1, 3)),
             Call::ReplaceLeft(x, NIL),
-            Call::ReplaceRight(x, rng.within(FIRST_ATOM, u16::MAX)),
+            Call::ReplaceRight(x, atoms::storable(rng)),
             Call::Cons(NIL, NIL),
         ];
         if let Some(y) = other {

@@ -2,7 +2,8 @@
 
 use std::io::{self, Write};
 
-use super::follower::{Follower, Mix};
+use super::atoms::{FIRST_CLIPPED, LAST_STORED};
+use super::follower::{Follower, Mix, QUESTIONS};
 use super::rng::Rng;
 use crate::call::{Call, Reply};
 use crate::session::write_call;
@@ -130,6 +131,7 @@ impl<W: Write> Session<'_, W> {
             Call::Cons(0, 0),
             Call::Up(1, 0),
             Call::ReplaceLeft(40_000, 32_767),
+            Call::Cons(0, FIRST_CLIPPED),
             Call::Step,
             Call::Fresh(0),
             Call::Fresh(4_097),
@@ -148,7 +150,7 @@ impl<W: Write> Session<'_, W> {
         let call = if now(rng, style.fresh) {
             Call::Fresh(rng.pick(&CELL_NUMBERS))
         } else if now(rng, style.refused) {
-            let question = 3 + rng.below(7);
+            let question = rng.pick(&QUESTIONS);
             match self.follower.refused_call(rng, question) {
                 Some(call) => call,
                 None => self.follower.lively_call(rng, style.mix),
@@ -199,6 +201,9 @@ pub fn ceiling_calls() -> Vec<Call> {
         Cons(NIL, 1),
         Cons(1, NIL),
         Cons(1, 1),
+        // A clipped reading comes before the pointers.
+        Cons(1, FIRST_CLIPPED),
+        Cons(LAST_STORED, 1),
         // Put in where it stands already: the pointers stay at 4,095.
         ReplaceLeft(2, 1),
         ReplaceRight(2, 1),

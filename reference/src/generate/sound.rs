@@ -2,7 +2,8 @@
 
 use std::io;
 
-use super::follower::{Follower, Mix};
+use super::atoms::{self, FIRST_CLIPPED, LAST_STORED};
+use super::follower::{Follower, Mix, QUESTIONS};
 use super::list::List;
 use super::rng::Rng;
 use crate::call::Call;
@@ -35,7 +36,15 @@ fn garbage(rng: &mut Rng, cells: u16) -> Store {
 /// Any of the ten calls with any operands, those at the borders more often.
 pub fn any_call(rng: &mut Rng, cells: u16) -> Call {
     let mut word = || match rng.below(8) {
-        0 => rng.pick(&[NIL, cells + 1, 32_767, FIRST_ATOM, u16::MAX]),
+        0 => rng.pick(&[
+            NIL,
+            cells + 1,
+            32_767,
+            FIRST_ATOM,
+            LAST_STORED,
+            FIRST_CLIPPED,
+            u16::MAX,
+        ]),
         1 => rng.word(),
         _ => rng.within(0, cells),
     };
@@ -80,7 +89,7 @@ pub fn runs(rng: &mut Rng, list: &mut List, cases: usize) -> io::Result<()> {
             let call = match rng.below(8) {
                 0 => any_call(rng, follower.cells()),
                 1 => {
-                    let question = 3 + rng.below(7);
+                    let question = rng.pick(&QUESTIONS);
                     let refused = follower.refused_call(rng, question);
                     refused.unwrap_or(Call::Audit)
                 }
@@ -108,12 +117,19 @@ pub fn random_store(rng: &mut Rng, cells: u16, calls: usize) -> Follower {
     follower
 }
 
+/// The same with clipped readings in it.
+pub fn clipped_store(rng: &mut Rng, cells: u16, calls: usize) -> Follower {
+    let mut follower = random_store(rng, cells, calls);
+    atoms::clip_some(rng, &mut follower.store);
+    follower
+}
+
 /// Sound stores written out, each with a few calls.
 pub fn snapshots(rng: &mut Rng, list: &mut List, cases: usize) -> io::Result<()> {
     for _ in 0..cases {
         let cells = rng.within(1, 9);
         let calls = rng.below(200);
-        let mut follower = random_store(rng, cells, calls);
+        let mut follower = clipped_store(rng, cells, calls);
         // Now and then the scratch is one short; its words are any.
         let scratch = cells as usize - usize::from(rng.one_in(6)) + rng.below(2);
         follower.store.scratch = (0..scratch).map(|_| rng.word()).collect();
@@ -139,7 +155,7 @@ pub fn operands(rng: &mut Rng, list: &mut List) -> io::Result<()> {
     for cells in [1, 3, 8, 4_095, 4_096] {
         list.title(&format!("border operands, {cells} cells"))?;
         if cells <= 8 {
-            list.store(&random_store(rng, cells, 60).store)?;
+            list.store(&clipped_store(rng, cells, 60).store)?;
         } else {
             list.store(&Store::zeroed(length(cells), cells as usize))?;
             list.brief(Call::Fresh(cells))?;
@@ -153,10 +169,12 @@ pub fn operands(rng: &mut Rng, list: &mut List) -> io::Result<()> {
             cells.saturating_add(1),
             32_767,
             32_768,
+            LAST_STORED,
+            FIRST_CLIPPED,
             65_535,
         ];
         let numbers = [0, 1, 2, 4_094, 4_095, 4_096, 32_768, 65_535];
-        list.brief(Call::Cons(0, 65_535))?;
+        list.brief(Call::Cons(0, LAST_STORED))?;
         list.brief(Call::Up(1, 3))?;
         for x in words {
             list.brief(Call::Car(x))?;

@@ -215,7 +215,21 @@ fn legal(word: u16, c: u16) -> bool {
     word == 0 || (1..=c).contains(&word) || word >= 32768
 }
 
-/// Questions 1 to 5; the number of the first "no".
+/// The words that a call stores in a cell.
+fn stored_by(call: Call) -> Vec<u16> {
+    match call {
+        Call::Cons(x, y) => vec![x, y],
+        Call::ReplaceLeft(_, y) | Call::ReplaceRight(_, y) => vec![y],
+        _ => vec![],
+    }
+}
+
+/// A5: the atoms of values 4,095 to 32,767.
+pub fn clipped(word: u16) -> bool {
+    (32768 + 4095..=32768 + 32767).contains(&word)
+}
+
+/// Questions 1 to 5 and 14; the number of the first "no".
 pub fn first_questions(store: &Store, call: Call) -> Result<(), u8> {
     let numbers: &[u16] = match &call {
         Call::Up(_, n) | Call::Down(_, n) => &[*n],
@@ -253,6 +267,9 @@ pub fn first_questions(store: &Store, call: Call) -> Result<(), u8> {
     }
     if x.is_some_and(|x| !(1..=c).contains(&x)) {
         return Err(5);
+    }
+    if stored_by(call).into_iter().any(clipped) {
+        return Err(14);
     }
     Ok(())
 }
@@ -298,6 +315,7 @@ pub fn refusal(number: u8) -> Refusal {
         Refusal::Outside,
         Refusal::Deep,
         Refusal::Buffer,
+        Refusal::Clipped,
     ][number as usize - 1]
 }
 
@@ -489,6 +507,13 @@ fn step(store: &Store) -> (Store, Reply) {
         freed: dead.len() as u16,
     };
     (after, reply)
+}
+
+/// Whether a field of a cell in use is a clipped reading.
+pub fn contains_clipped(store: &Store) -> bool {
+    let model = model(store);
+    let mut in_use = model.cells.values().filter(|cell| cell.state == 1);
+    in_use.any(|cell| clipped(cell.left) || clipped(cell.right))
 }
 
 // The audit, for a store that passes question 1.

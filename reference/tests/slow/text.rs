@@ -119,7 +119,16 @@ fn build(store: &mut Store, tree: &Tree) -> u16 {
     }
 }
 
-/// Questions 1, 11 and 12 of reading.
+/// Whether an atom anywhere in the tree, or the tree itself, is 4,095 or more.
+fn has_clipped(tree: &Tree) -> bool {
+    match tree {
+        Tree::Nil => false,
+        Tree::Atom(value) => *value > 4094,
+        Tree::Pair(left, right) => has_clipped(left) || has_clipped(right),
+    }
+}
+
+/// Questions 1, 11, 12 and 14 of reading.
 pub fn first_of_read(store: &Store, text: &[u8]) -> Result<Tree, u8> {
     if !question_1(store) {
         return Err(1);
@@ -129,6 +138,9 @@ pub fn first_of_read(store: &Store, text: &[u8]) -> Result<Tree, u8> {
     let opened = text.iter().filter(|&&byte| byte == b'(').count();
     if opened > 32 && depth(text) > 32 {
         return Err(12);
+    }
+    if has_clipped(&tree) {
+        return Err(14);
     }
     Ok(tree)
 }

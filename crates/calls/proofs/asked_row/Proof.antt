@@ -33,7 +33,7 @@ queues c = sym (c .before .reads-nil .ensures) ∙ c .if1 .left
 early-asked-requires : tie.Need-early-asked-requires
 early-asked-requires c κs = queues c
 
--- questions 1 to 5 say "yes"
+-- the early questions say "yes"
 early-yes : (c : tie.After-early-asked) → c .early-asked .result ≡ Asked.Yes
     → let i = c .before .before .before .before .args in firstNo (early (store (i .table .now) (i .queue) []) (row (callOf (i .call)))) ≡ 0
 early-yes c said = sym (asked-yes (c .early-asked .ensures (c .before .before .before .before .args .queue)) said)

@@ -49,6 +49,9 @@ pub fn s1(list: &mut List) -> io::Result<()> {
         ("S1: right of a cell is 4097", word(5, RIGHT), 4_097),
         ("S1: left of a cell is atom 0", word(5, LEFT), 32_768),
         ("S1: left of a cell is the last atom", word(5, LEFT), 65_535),
+        ("S1: left of a cell is atom 4094", word(5, LEFT), 36_862),
+        ("S1: left of a cell is atom 4095", word(5, LEFT), 36_863),
+        ("S1: right of a cell is atom 4096", word(1, RIGHT), 36_864),
         ("S1: left of a cell is nil", word(1, LEFT), 0),
         ("S1: left of a cell is a free cell", word(5, LEFT), 7),
         (

@@ -82,6 +82,16 @@ pub fn s2(list: &mut List) -> io::Result<()> {
             &[(word(8, LEFT), 65_535)],
         ),
         (
+            "S2: chain ends at a clipped reading",
+            &sample,
+            &[(word(4, LEFT), 36_863)],
+        ),
+        (
+            "S2: right of a free cell is a clipped reading",
+            &sample,
+            &[(word(7, RIGHT), 36_863)],
+        ),
+        (
             "S2: right of a free cell is 1",
             &sample,
             &[(word(8, RIGHT), 1)],

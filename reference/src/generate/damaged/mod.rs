@@ -15,6 +15,7 @@ pub use packets::s3;
 pub use pointers::s4;
 pub use reached::s5;
 
+use super::atoms::{self, FIRST_CLIPPED};
 use super::follower::Follower;
 use super::list::word;
 use crate::call::Call;
@@ -30,7 +31,7 @@ type Words = [u16; 4];
 
 /// A sound store of eight cells. Cells 1, 2, 5 and 6 are in use, 2 in a ring
 /// with itself; the free chain is 7, 8, 3, 4; packets of every kind wait, from
-/// slot 60 over the end to slot 1.
+/// slot 60 over the end to slot 1. Cell 5 contains a clipped reading.
 pub fn sample() -> Store {
     let mut follower = Follower::fresh(8);
     follower.store.scratch = vec![9, 8, 7, 6, 5, 4, 3, 2, 1];
@@ -67,11 +68,13 @@ pub fn sample() -> Store {
     ] {
         follower.perform(call);
     }
+    atoms::rename(&mut follower.store, 32_768, FIRST_CLIPPED);
     follower.store
 }
 
 /// A sound store of six cells without waiting packets: 1 holds 2 and 3, 2 and
-/// 3 are a ring, 4 holds itself; 1 and 4 are held once, 5 and 6 are free.
+/// 3 are a ring, 4 holds itself and a clipped reading; 1 and 4 are held once, 5
+/// and 6 are free.
 fn settled() -> Store {
     let mut follower = Follower::fresh(6);
     for call in [
@@ -92,6 +95,7 @@ fn settled() -> Store {
         follower.perform(call);
     }
     follower.drain();
+    atoms::rename(&mut follower.store, 32_769, u16::MAX);
     follower.store
 }
 

@@ -3,6 +3,7 @@
 use std::io;
 
 use crate::call::Call;
+use crate::generate::atoms::{self, FIRST_CLIPPED, LAST_STORED};
 use crate::generate::edges;
 use crate::generate::follower::nil_read;
 use crate::generate::list::List;
@@ -20,6 +21,9 @@ pub fn mutants(rng: &mut Rng, list: &mut List, cases: usize) -> io::Result<()> {
         list.store(&store)?;
         list.call(Call::Audit)?;
         list.brief(nil_read(rng))?;
+        if rng.one_in(2) {
+            list.brief(clipped_call(rng, cells))?;
+        }
         for _ in 0..2 {
             list.brief(sound::any_call(rng, cells))?;
         }
@@ -27,16 +31,29 @@ pub fn mutants(rng: &mut Rng, list: &mut List, cases: usize) -> io::Result<()> {
     Ok(())
 }
 
+/// A call that question 14 refuses on any store of so many cells.
+fn clipped_call(rng: &mut Rng, cells: u16) -> Call {
+    let (x, y) = (rng.within(1, cells), rng.within(0, cells));
+    let clipped = atoms::clipped(rng);
+    rng.pick(&[
+        Call::Cons(clipped, y),
+        Call::Cons(y, clipped),
+        Call::ReplaceLeft(x, clipped),
+        Call::ReplaceRight(x, clipped),
+    ])
+}
+
 /// A sound store with one or two words changed.
 pub fn mutant(rng: &mut Rng, cells: u16) -> Store {
     let calls = rng.below(120);
-    let mut store = sound::random_store(rng, cells, calls).store;
+    let mut store = sound::clipped_store(rng, cells, calls).store;
     for word in &mut store.scratch {
         *word = rng.word();
     }
     for _ in 0..1 + rng.below(2) {
         let value = match rng.below(4) {
             0 => rng.pick(&[0, cells + 1, 4_095, 4_096, 32_767, 32_768, 65_535]),
+            1 if rng.one_in(2) => rng.pick(&[LAST_STORED, FIRST_CLIPPED]),
             1 => rng.word(),
             _ => rng.within(0, cells),
         };
@@ -46,8 +63,8 @@ pub fn mutant(rng: &mut Rng, cells: u16) -> Store {
 }
 
 /// Mutants and garbage, audited, each with reads of nil and calls that questions
-/// 3 to 5 refuse on any store and then all row calls and steps on its cells,
-/// decided or not.
+/// 3 to 5 and 14 refuse on any store and then all row calls and steps on its
+/// cells, decided or not.
 pub fn wrecks(rng: &mut Rng, list: &mut List, cases: usize) -> io::Result<()> {
     for case in 0..cases {
         let cells = match case % 12 {
@@ -76,6 +93,13 @@ pub fn wrecks(rng: &mut Rng, list: &mut List, cases: usize) -> io::Result<()> {
                 Call::ReplaceLeft(no_cell, y),
                 Call::ReplaceRight(no_cell, y),
             ]),
+            // Question 4 or 5 comes before question 14.
+            rng.pick(&[
+                Call::Cons(FIRST_CLIPPED, bad),
+                Call::ReplaceLeft(no_cell, FIRST_CLIPPED),
+                Call::ReplaceRight(bad, FIRST_CLIPPED),
+            ]),
+            clipped_call(rng, cells),
             Call::Cdr(0),
         ] {
             list.brief(call)?;

@@ -61,6 +61,7 @@ pub fn s4(list: &mut List) -> io::Result<()> {
         }
     }
     undo_order(list)?;
+    clipped(list)?;
     many_pointers(list)
 }
 
@@ -137,6 +138,35 @@ fn undo_order(list: &mut List) -> io::Result<()> {
     let mut store = good;
     store.queue.b[0] = 1;
     list.case("S4: 64 replaces, the count fails at the end", &store)
+}
+
+/// Clipped readings put in and taken out before A5, by packets that still wait.
+fn clipped(list: &mut List) -> io::Result<()> {
+    let packets = [
+        [2, 36_863, 65_535, 3],
+        [3, 36_863, 0, 1],
+        [3, 36_864, 36_863, 1],
+        [6, 65_535, 0, 2],
+        [6, 0, 65_535, 2],
+        [1, 3, 36_863, 0],
+    ];
+    let fields = [
+        (word(3, LEFT), 36_863),
+        (word(3, RIGHT), 65_535),
+        (word(1, LEFT), 36_864),
+    ];
+    let good = edited(&with_packets([1, 1, 1], &packets), &fields);
+    list.case("S4: clipped readings put in and taken out", &good)?;
+    for (index, value) in [
+        (word(3, LEFT), 36_862),
+        (word(3, RIGHT), 36_863),
+        (word(1, LEFT), 36_863),
+        (word(2, RIGHT), 65_535),
+    ] {
+        let title = format!("S4: atom {} for another", value - FIRST_ATOM);
+        list.case(&title, &edited(&good, &[(index, value)]))?;
+    }
+    Ok(())
 }
 
 /// Cells 2 to 2,049 hold cell 1 twice each, or as told; the cell count is as

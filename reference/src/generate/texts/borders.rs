@@ -55,7 +55,7 @@ fn papers(list: &mut List) -> io::Result<()> {
     Ok(())
 }
 
-/// Atoms at 32,767 and far over it, leading zeros, signs.
+/// Atoms at 4,095, at 32,767 and far over it, leading zeros, signs.
 fn values(list: &mut List) -> io::Result<()> {
     let mut case = Case::fresh(list, "values", 3)?;
     for value in [
@@ -63,6 +63,7 @@ fn values(list: &mut List) -> io::Result<()> {
         "1",
         "9",
         "10",
+        "4094",
         "4095",
         "4096",
         "9999",
@@ -349,7 +350,7 @@ fn words(rng: &mut Rng, list: &mut List) -> io::Result<()> {
             }
         }
         for value in [
-            0, 1, 9, 10, 99, 100, 999, 1_000, 9_999, 10_000, 32_766, 32_767,
+            0, 1, 9, 10, 99, 100, 999, 1_000, 4_094, 4_095, 4_096, 9_999, 10_000, 32_766, 32_767,
         ] {
             for length in 0..=6 {
                 case.write(FIRST_ATOM + value, length, any_fill(rng))?;

@@ -21,6 +21,15 @@ fn write(word: u16, length: usize) -> TextCall {
     TextCall::Write { word, length, fill }
 }
 
+/// Texts that question 14 refuses on any store.
+const CLIPPED: [&[u8]; 5] = [
+    b"4095",
+    b"(32767)",
+    b"(1 . 4095)",
+    b"((4096) 2)",
+    b"(4095 1)",
+];
+
 pub fn damaged(rng: &mut Rng, list: &mut List, cases: usize) -> io::Result<()> {
     question_1(list)?;
     wrong_words(list)?;
@@ -41,6 +50,7 @@ pub fn damaged(rng: &mut Rng, list: &mut List, cases: usize) -> io::Result<()> {
             list.text(&read(&nested(33, "")), true)?;
             list.text(&read(&nested(33, ".")), true)?;
         }
+        list.text(&read(rng.pick(&CLIPPED)), true)?;
         for word in [cells + 1, rng.within(cells + 1, 32_767)] {
             list.text(&write(word, rng.below(30)), rng.one_in(2))?;
         }
@@ -154,6 +164,8 @@ fn question_1(list: &mut List) -> io::Result<()> {
         for call in [
             read(b"x"),
             read(&nested(33, "")),
+            read(b"4095"),
+            read(b"(1 4095)"),
             write(9, 3),
             write(32_767, 0),
             read(b"(1 2)"),

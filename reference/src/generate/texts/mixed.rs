@@ -4,7 +4,8 @@ use std::io;
 
 use super::{any_fill, random, scattered, Case};
 use crate::call::Call;
-use crate::generate::follower::Follower;
+use crate::generate::atoms;
+use crate::generate::follower::{Follower, QUESTIONS};
 use crate::generate::list::List;
 use crate::generate::rng::Rng;
 use crate::generate::sound::{any_call, random_mix, random_store};
@@ -79,7 +80,7 @@ fn run(rng: &mut Rng, list: &mut List, cells: u16, calls: usize) -> io::Result<(
                 case.call(call)?;
             }
             6 => {
-                let question = 3 + rng.below(7);
+                let question = rng.pick(&QUESTIONS);
                 let call = case.follower.refused_call(rng, question);
                 case.call(call.unwrap_or(Call::Audit))?;
             }
@@ -94,13 +95,17 @@ fn run(rng: &mut Rng, list: &mut List, cells: u16, calls: usize) -> io::Result<(
 }
 
 /// Words of random stores, rings left out, written; their texts read in another
-/// store, twice if there is room, and written there.
+/// store, twice if there is room, and written there. Every fourth store has clipped
+/// readings, of which the text isn't read again.
 pub fn back(rng: &mut Rng, list: &mut List, cases: usize) -> io::Result<()> {
     let mut made = 0;
     while made < cases {
         let cells = rng.within(2, 8);
         let calls = 20 + rng.below(100);
-        let follower = random_store(rng, cells, calls);
+        let mut follower = random_store(rng, cells, calls);
+        if made % 4 == 3 {
+            atoms::clip_some(rng, &mut follower.store);
+        }
         let Some(word) = follower.held_cell(rng) else {
             continue;
         };

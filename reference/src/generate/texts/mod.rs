@@ -1,6 +1,7 @@
 //! Lists for rule text in and out (request A4).
 
 mod borders;
+mod clipped;
 mod damaged;
 mod deep;
 mod mixed;
@@ -11,6 +12,7 @@ mod shapes;
 mod short;
 
 pub use borders::borders;
+pub use clipped::clipped;
 pub use damaged::damaged;
 pub use deep::deep;
 pub use mixed::{back, mixed};
@@ -21,6 +23,7 @@ pub use short::{bytes, short, texts};
 
 use std::io;
 
+use super::atoms;
 use super::follower::Follower;
 use super::list::List;
 use super::rng::Rng;
@@ -120,11 +123,11 @@ fn any_fill(rng: &mut Rng) -> u8 {
 
 /// A settled store in which the cells 1 to C were taken and all but `kept` of
 /// them given up one by one, so that the free chain is in no order. The queue's
-/// place is somewhere.
+/// place is somewhere, and some cells contain clipped readings.
 fn scattered(rng: &mut Rng, cells: u16, kept: u16) -> Follower {
     let mut follower = Follower::fresh(cells);
     for _ in 0..cells {
-        follower.perform(Call::Cons(NIL, rng.within(FIRST_ATOM, u16::MAX)));
+        follower.perform(Call::Cons(NIL, atoms::storable(rng)));
         follower.drain();
     }
     let mut all: Vec<u16> = (1..=cells).collect();
@@ -139,6 +142,7 @@ fn scattered(rng: &mut Rng, cells: u16, kept: u16) -> Follower {
             follower.drain();
         }
     }
+    atoms::clip_some(rng, &mut follower.store);
     follower
 }
 
@@ -156,7 +160,7 @@ fn flat(rng: &mut Rng, n: usize) -> Vec<u8> {
 /// Some text of exactly `n` pairs that isn't too deep.
 fn some_pairs(rng: &mut Rng, n: usize) -> Vec<u8> {
     if n == 0 {
-        return rng.pick(&[&b"()"[..], b"7", b" ( ) ", b"32767"]).to_vec();
+        return rng.pick(&[&b"()"[..], b"7", b" ( ) ", b"4094"]).to_vec();
     }
     match rng.below(if n <= 30 { 6 } else { 4 }) {
         0 => flat(rng, n),

@@ -3,17 +3,18 @@
 use crate::generate::rng::Rng;
 use crate::notation::Element;
 
-const VALUES: [u16; 20] = [
-    0, 1, 2, 7, 9, 10, 11, 99, 100, 255, 999, 1_000, 4_094, 4_095, 4_096, 9_999, 10_000, 32_766,
-    32_767, 20_000,
+/// Values that may be stored, and clipped ones.
+const VALUES: [u16; 16] = [
+    0, 1, 2, 7, 9, 10, 11, 99, 100, 255, 999, 1_000, 2_048, 4_000, 4_093, 4_094,
 ];
+const CLIPPED: [u16; 8] = [4_095, 4_095, 4_096, 9_999, 10_000, 20_000, 32_766, 32_767];
 
-/// An element in which lists stand at most `depth` deep.
+/// An element in which lists stand at most `depth` deep, without clipped readings.
 pub fn element(rng: &mut Rng, depth: usize) -> Element {
     if depth == 0 || rng.one_in(3) {
         return match rng.below(4) {
             0 => Element::Nil,
-            1 => Element::Atom(rng.within(0, 32_767)),
+            1 => Element::Atom(rng.within(0, 4_094)),
             _ => Element::Atom(rng.pick(&VALUES)),
         };
     }
@@ -21,6 +22,23 @@ pub fn element(rng: &mut Rng, depth: usize) -> Element {
     let elements: Vec<Element> = elements.collect();
     let last = rng.one_in(3).then(|| Box::new(element(rng, depth - 1)));
     Element::List(elements, last)
+}
+
+/// Makes about half of its atoms clipped readings.
+fn clip(rng: &mut Rng, element: &mut Element) {
+    match element {
+        Element::Nil => {}
+        Element::Atom(value) => {
+            if rng.one_in(2) {
+                *value = rng.pick(&CLIPPED);
+            }
+        }
+        Element::List(elements, last) => {
+            for element in elements.iter_mut().chain(last.as_deref_mut()) {
+                clip(rng, element);
+            }
+        }
+    }
 }
 
 /// Its brackets, dots and atoms.
@@ -67,9 +85,12 @@ pub fn spell(rng: &mut Rng, element: &Element) -> Vec<u8> {
     text
 }
 
-/// A text within the notation.
+/// A text within the notation; one in eight may have clipped readings.
 pub fn text(rng: &mut Rng, depth: usize) -> Vec<u8> {
-    let element = element(rng, depth);
+    let mut element = element(rng, depth);
+    if rng.one_in(8) {
+        clip(rng, &mut element);
+    }
     spell(rng, &element)
 }
 

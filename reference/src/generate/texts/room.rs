@@ -4,6 +4,7 @@ use std::io;
 
 use super::{scattered, some_pairs, Case};
 use crate::call::Call;
+use crate::generate::atoms;
 use crate::generate::follower::Follower;
 use crate::generate::list::List;
 use crate::generate::rng::Rng;
@@ -18,7 +19,7 @@ fn fill(rng: &mut Rng, follower: &mut Follower, waiting: usize) {
         };
         let call = match rng.below(5) {
             0 => Call::ReplaceLeft(x, NIL),
-            1 => Call::ReplaceRight(x, rng.within(FIRST_ATOM, u16::MAX)),
+            1 => Call::ReplaceRight(x, atoms::storable(rng)),
             2 if follower.holds(x) > 1 => Call::Down(x, 1),
             _ => Call::Up(x, 1),
         };

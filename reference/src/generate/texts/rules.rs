@@ -11,6 +11,7 @@ use crate::generate::rng::Rng;
 pub fn rules(rng: &mut Rng, lines: usize, output: &mut dyn Write) -> io::Result<()> {
     let mut texts = vec![Vec::new()];
     texts.extend(known());
+    texts.extend(clipped());
     texts.extend((1..=3).flat_map(short::all_of_length));
     for byte in (0..=u8::MAX).filter(|&byte| byte != b'\n') {
         for (before, after) in [("", ""), ("(1", "2)"), ("(1 ", " . 2)"), ("(1)", "")] {
@@ -20,6 +21,7 @@ pub fn rules(rng: &mut Rng, lines: usize, output: &mut dyn Write) -> io::Result<
     for n in [1, 2, 31, 32, 33, 34, 64, 65, 1_000, 2_048] {
         texts.push(nested(n, ""));
         texts.push(nested(n, "5"));
+        texts.push(nested(n, "4095"));
         texts.push(nested(n, ".")); // Outside, however deep.
         texts.push(nested(n, "1 2 . 3"));
         texts.push("(".repeat(n).into_bytes());
@@ -31,7 +33,8 @@ pub fn rules(rng: &mut Rng, lines: usize, output: &mut dyn Write) -> io::Result<
     for pairs in [1, 2, 31, 32, 33, 62, 63, 64, 65, 66, 128, 2_047] {
         texts.push(flat(rng, pairs));
         texts.push(format!("({})", "()".repeat(pairs)).into_bytes());
-        texts.push(format!("({}.9)", "32767 ".repeat(pairs)).into_bytes());
+        texts.push(format!("({}.9)", "4094 ".repeat(pairs)).into_bytes());
+        texts.push(format!("({}.4095)", "1 ".repeat(pairs)).into_bytes());
     }
     for length in [4_095, 4_096, 4_097, 4_098, 8_192, 70_000] {
         texts.push(format!("(1{}2)", " ".repeat(length - 4)).into_bytes());
@@ -65,6 +68,33 @@ pub fn rules(rng: &mut Rng, lines: usize, output: &mut dyn Write) -> io::Result<
     } else {
         last
     })
+}
+
+/// Values on both sides of 4,095 and at the notation's end, in many places.
+fn clipped() -> Vec<Vec<u8>> {
+    let mut texts = Vec::new();
+    for value in [
+        "4093", "4094", "4095", "4096", "32767", "32768", "04094", "04095",
+    ] {
+        for (before, after) in [
+            ("", ""),
+            (" ", " "),
+            ("(", ")"),
+            ("(", " 1)"),
+            ("(1 ", " 2)"),
+            ("(1 ", ")"),
+            ("(1 . ", ")"),
+            ("(", ".1)"),
+            ("((2 (", ")) 3)"),
+            ("(4094 ", ")"),
+            ("(", " 4095)"),
+            ("(", ""),
+            ("", ")"),
+        ] {
+            texts.push(format!("{before}{value}{after}").into_bytes());
+        }
+    }
+    texts
 }
 
 fn known() -> Vec<Vec<u8>> {

@@ -8,7 +8,7 @@ use crate::call::Call;
 use crate::generate::follower::Follower;
 use crate::generate::list::List;
 use crate::generate::rng::Rng;
-use crate::generate::sound::random_store;
+use crate::generate::sound::clipped_store;
 use crate::table::*;
 
 const ATOM: u16 = FIRST_ATOM;
@@ -93,7 +93,7 @@ fn known(rng: &mut Rng, list: &mut List) -> io::Result<()> {
         (
             "atoms of all lengths",
             &[
-                Cons(ATOM + 32_767, ATOM),
+                Cons(ATOM + 4_094, ATOM),
                 Cons(ATOM + 1_000, 1),
                 Cons(ATOM + 100, 2),
                 Cons(ATOM + 10, 3),
@@ -177,7 +177,7 @@ fn doubled(rng: &mut Rng, list: &mut List) -> io::Result<()> {
 fn random(rng: &mut Rng, list: &mut List) -> io::Result<()> {
     let cells = rng.within(2, 7);
     let calls = 30 + rng.below(120);
-    let mut follower = random_store(rng, cells, calls);
+    let mut follower = clipped_store(rng, cells, calls);
     if rng.one_in(2) {
         follower.drain();
     }

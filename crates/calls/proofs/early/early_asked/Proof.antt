@@ -1,4 +1,5 @@
 use Rattle.machine.specs.Queue.{placed}
+use Rattle.calls.proofs.EarlyLaws.{stored-behind}
 use Rattle.calls.proofs.CallLaws.{early-of}
 use borrow.Author.Needs.{needs}
 use Rattle.calls.proofs.early.early_asked.Statement.{statement}
@@ -22,17 +23,26 @@ enum-known-call-3 c = search needs
 words-asked-requires : tie.Need-words-asked-requires
 words-asked-requires c κs = search needs
 
+stored-asked-requires : tie.Need-stored-asked-requires
+stored-asked-requires c κs = search needs
+
 enum-known-call-4 : tie.Need-enum-known-call-4
 enum-known-call-4 c = search needs
 
 cell-asked-requires-3 : tie.Need-cell-asked-requires-3
 cell-asked-requires-3 c κs = search needs
 
+stored-asked-requires-2 : tie.Need-stored-asked-requires-2
+stored-asked-requires-2 c κs = search needs
+
 enum-known-call-5 : tie.Need-enum-known-call-5
 enum-known-call-5 c = search needs
 
 cell-asked-requires-4 : tie.Need-cell-asked-requires-4
 cell-asked-requires-4 c κs = search needs
+
+stored-asked-requires-3 : tie.Need-stored-asked-requires-3
+stored-asked-requires-3 c κs = search needs
 
 enum-known-call-6 : tie.Need-enum-known-call-6
 enum-known-call-6 c = search needs
@@ -58,18 +68,27 @@ returns-2 c q =
 
 returns-3 : tie.Need-returns-3
 returns-3 c q =
-    let i = c .before .before .before .before .before .args in
-    early-of (i .table .now) (placed q (i .place) (i .count)) (c .words-asked .result) (i .call) _ (c .before .before .before .before .before .pre) (c .before .before .call3 .given .1) (c .words-asked .ensures q)
+    let asked = c .before in
+    let s = asked .before .before .before .before .before in
+    let i = s .args in
+    early-of (i .table .now) (placed q (i .place) (i .count)) (c .stored-asked .result) (i .call) _ (s .pre) (asked .before .before .call3 .given .1)
+    (stored-behind _ _ _ _ (c .stored-asked .ensures) (asked .words-asked .ensures q))
 
 returns-4 : tie.Need-returns-4
 returns-4 c q =
-    let i = c .before .before .before .before .before .args in
-    early-of (i .table .now) (placed q (i .place) (i .count)) (c .cell-asked3 .result) (i .call) _ (c .before .before .before .before .before .pre) (c .before .before .call4 .given .1) (c .cell-asked3 .ensures q)
+    let asked = c .before in
+    let s = asked .before .before .before .before .before in
+    let i = s .args in
+    early-of (i .table .now) (placed q (i .place) (i .count)) (c .stored-asked2 .result) (i .call) _ (s .pre) (asked .before .before .call4 .given .1)
+    (stored-behind _ _ _ _ (c .stored-asked2 .ensures) (asked .cell-asked3 .ensures q))
 
 returns-5 : tie.Need-returns-5
 returns-5 c q =
-    let i = c .before .before .before .before .before .args in
-    early-of (i .table .now) (placed q (i .place) (i .count)) (c .cell-asked4 .result) (i .call) _ (c .before .before .before .before .before .pre) (c .before .before .call5 .given .1) (c .cell-asked4 .ensures q)
+    let asked = c .before in
+    let s = asked .before .before .before .before .before in
+    let i = s .args in
+    early-of (i .table .now) (placed q (i .place) (i .count)) (c .stored-asked3 .result) (i .call) _ (s .pre) (asked .before .before .call5 .given .1)
+    (stored-behind _ _ _ _ (c .stored-asked3 .ensures) (asked .cell-asked4 .ensures q))
 
 returns-6 : tie.Need-returns-6
 returns-6 c q =
@@ -91,10 +110,13 @@ early-asked-spec =
     cell-asked-requires-2
     enum-known-call-3
     words-asked-requires
+    stored-asked-requires
     enum-known-call-4
     cell-asked-requires-3
+    stored-asked-requires-2
     enum-known-call-5
     cell-asked-requires-4
+    stored-asked-requires-3
     enum-known-call-6
     cell-asked-requires-5
     enum-known-call-7

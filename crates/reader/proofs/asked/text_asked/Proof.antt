@@ -1,4 +1,4 @@
-use mathlib.Core.Path.{_≡_, _∙_}
+use mathlib.Core.Path.{_≡_, sym, _∙_}
 use mathlib.Core.Bool.{true}
 use borrow.Author.Needs.{needs}
 use Rattle.machine.specs.declared.Queue.{Queue}
@@ -6,7 +6,8 @@ use Rattle.machine.specs.Queue.{placed, emptyQueue}
 use Rattle.machine.specs.Questions.{inRange}
 use Rattle.machine.proofs.Questions.{shape-is}
 use Rattle.calls.proofs.EarlyLaws.{yes, no}
-use Rattle.reader.proofs.CalledLaws.{asked-first, asked-outside, asked-deep, asked-pairs}
+use Rattle.reader.proofs.CalledLaws.{asked-first, asked-outside, asked-deep, asked-tree}
+use Rattle.reader.proofs.StorableLaws.{found-within}
 use Rattle.reader.proofs.asked.text_asked.Statement.{statement}
 use Rattle.reader.proofs.asked.text_asked.Tie as tie
 
@@ -37,10 +38,12 @@ enum-told-2 c = search needs
 enum-known-scanned : tie.Need-enum-known-scanned
 enum-known-scanned c = search needs
 
-pairs-asked-requires : tie.Need-pairs-asked-requires
-pairs-asked-requires c κs =
-    let shape = shape-is _ _ (in-yes (c .before .before .before .before) emptyQueue) in
-    (shape .table, shape .queue .count)
+tree-asked-requires : tie.Need-tree-asked-requires
+tree-asked-requires c κs =
+    let told = c .before in
+    let at-scan = told .before .before in
+    let shape = shape-is _ _ (in-yes (at-scan .before) emptyQueue) in
+    (shape .table, shape .queue .count, found-within _ _ _ (sym (at-scan .scan .ensures) ∙ told .scanned .given .1))
 
 returns-2 : tie.Need-returns-2
 returns-2 c q =
@@ -59,8 +62,8 @@ returns-4 c q =
     let told = c .before .before in
     let at-scan = told .before .before in
     let i = at-scan .before .before .before .before .before .args in
-    c .pairs-asked .ensures
-    ∙ asked-pairs (i .table .now) (placed q (i .place) (i .count)) (i .text .now) (in-yes (at-scan .before) q) (at-scan .scan .ensures) (told .scanned .given .0 .0) (told .scanned .given .1)
+    c .tree-asked .ensures
+    ∙ asked-tree (i .table .now) (placed q (i .place) (i .count)) (i .text .now) (in-yes (at-scan .before) q) (at-scan .scan .ensures) _ _ (told .scanned .given .1)
 
 pub text-asked-spec : {M : Type 1} → statement M
 text-asked-spec =
@@ -72,7 +75,7 @@ text-asked-spec =
     enum-told
     enum-told-2
     enum-known-scanned
-    pairs-asked-requires
+    tree-asked-requires
     returns-2
     returns-3
     returns-4)

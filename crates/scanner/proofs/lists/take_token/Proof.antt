@@ -29,14 +29,17 @@ enum-told-4 c = search needs
 put-dot-requires : tie.Need-put-dot-requires
 put-dot-requires c κs = search needs
 
-enum-told-5 : tie.Need-enum-told-5
-enum-told-5 c = search needs
+enum-known-token : tie.Need-enum-known-token
+enum-known-token c = search needs
+
+larger-requires : tie.Need-larger-requires
+larger-requires c κs = search needs
 
 deliver-requires : tie.Need-deliver-requires
 deliver-requires c κs = search needs
 
-enum-told-6 : tie.Need-enum-told-6
-enum-told-6 c = search needs
+enum-told-5 : tie.Need-enum-told-5
+enum-told-5 c = search needs
 
 returns : tie.Need-returns
 returns c =
@@ -72,19 +75,20 @@ returns-4 c =
 
 returns-5 : tie.Need-returns-5
 returns-5 c =
-    let at-token = c .before .before .before in
+    let known = c .before .before .before in
+    let at-token = known .before .before in
     let read = at-token .token-at .ensures in
     let asked = at-token .before .before .pre in
-    let same = rw (c .before .enum-told5 .given .1) at (read .marks) in
+    let same = rw (known .token .given .1) at (read .marks) in
     let x = token-read _ _ _ _ (asked .0) (read .further) (read .inside) (number _) same in
-    taken-from _ _ (c .deliver .result) (read .further) (c .deliver .ensures _ _ _ (number-read _ _ _ _ x))
+    taken-from _ _ (c .deliver .result) (read .further) (c .deliver .ensures _ _ _ (number-read _ _ _ _ _ (c .before .larger .ensures) x))
 
 returns-6 : tie.Need-returns-6
 returns-6 c =
     let at-token = c .before .before in
     let read = at-token .token-at .ensures in
     let asked = at-token .before .before .pre in
-    foreign-read _ _ _ (at-token .token-at .result .next) (asked .0) (rw (c .enum-told6 .given .1) at (read .marks))
+    foreign-read _ _ _ (at-token .token-at .result .next) (asked .0) (rw (c .enum-told5 .given .1) at (read .marks))
 
 pub take-token-spec : {M : Type 1} → statement M
 take-token-spec =
@@ -98,9 +102,10 @@ take-token-spec =
     close-list-requires
     enum-told-4
     put-dot-requires
-    enum-told-5
+    enum-known-token
+    larger-requires
     deliver-requires
-    enum-told-6
+    enum-told-5
     returns
     returns-2
     returns-3
