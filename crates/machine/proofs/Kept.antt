@@ -210,16 +210,19 @@ untouched-consed s x y = go (firstNo (questions s (row (cons x y)))) refl
     go zero e = untouched s (written (s .table) (cons x y)) _ (s .scratch) (framed-written s (cons x y) (early-yes s (row (cons x y)) e)) refl refl
     go (suc n) e = unmoved s
 
-pub untouched-built : (s : Store) (t : Tree) → Untouched s (buildBy consed s t .after)
+-- what every cons keeps, building a tree by it keeps
+pub built-keeps : (make : Store → ℕ → ℕ → Outcome) (P : Store → Type 0) → ((s : Store) (x y : ℕ) → P s → P (make s x y .after))
+    → (s : Store) (t : Tree) → P s → P (buildBy make s t .after)
 unfolding buildBy
-untouched-built s nil = unmoved s
-untouched-built s (atom v) = unmoved s
-untouched-built s (pair a d) =
-    let x = buildBy consed s a in
-    let y = buildBy consed (x .after) d in
-    untouched-trans s (x .after) (consed (y .after) (x .word) (y .word) .after) (untouched-built s a)
-    (untouched-trans (x .after) (y .after) (consed (y .after) (x .word) (y .word) .after) (untouched-built (x .after) d)
-    (untouched-consed (y .after) (x .word) (y .word)))
+built-keeps make P keeps s nil h = h
+built-keeps make P keeps s (atom v) h = h
+built-keeps make P keeps s (pair a d) h =
+    let x = buildBy make s a in
+    let y = buildBy make (x .after) d in
+    keeps (y .after) (x .word) (y .word) (built-keeps make P keeps (x .after) d (built-keeps make P keeps s a h))
+
+pub untouched-built : (s : Store) (t : Tree) → Untouched s (buildBy consed s t .after)
+untouched-built s t = built-keeps consed (Untouched s) (λ u x y h. untouched-trans s u (consed u x y .after) h (untouched-consed u x y)) s t (unmoved s)
 
 pub bounded-accepted : (s : Store) (call : Call) → AllYes (early s call) → Bounded call s (accepted s call .after)
 unfolding accepted textRead stepped audited early

@@ -8,7 +8,7 @@ use native.Mathlib.Omega.{arith}
 use lib.Dec.{leb}
 use lib.ListN.{length}
 use borrow.Author.Tests.{leb-true}
-use Rattle.notation.specs.Trees.{Tree, nil, atom, pair, Values, pairs}
+use Rattle.notation.specs.Trees.{Tree, Values, pairs}
 use Rattle.notation.specs.Parse.{parse, Parsed, tree, none, meaning}
 use Rattle.notation.proofs.Theorems.{values-read}
 use Rattle.machine.specs.Words.{mostCells}
@@ -24,7 +24,7 @@ use Rattle.machine.specs.Promise.{Decided, Promise}
 use Rattle.machine.proofs.Range.{and-first, and-second}
 use Rattle.machine.proofs.Ring.{arrays-appended, arrays-taken}
 use Rattle.machine.proofs.Questions.{firstNo-none, firstNo-all, firstNo-zero, early-numbered}
-use Rattle.machine.proofs.Kept.{machine-cases, early-yes, gives-machine}
+use Rattle.machine.proofs.Kept.{machine-cases, early-yes, built-keeps, gives-machine}
 use Rattle.machine.proofs.NilReads.{row-cases}
 use Rattle.soundness.specs.Whole.{Whole}
 use Rattle.soundness.specs.TextRead.{AllAccepted}
@@ -104,19 +104,13 @@ accepted-whole s (write x room) w h = w
 pub machine-whole : (s : Store) (call : Call) → Whole (s .table) (s .queue) → Whole (machine s call .after .table) (machine s call .after .queue)
 machine-whole s call w = machine-cases s call (λ o. Whole (o .after .table) (o .after .queue)) (accepted-whole s call w) (λ n e. w)
 
--- so does a tree that is built by cons, whether each cons is accepted or not
-cons-whole : (s : Store) (x y : ℕ) → Whole (s .table) (s .queue) → Whole (consed s x y .after .table) (consed s x y .after .queue)
+-- so does a cons, whether it is accepted or not, and a tree that is built by it
+pub cons-whole : (s : Store) (x y : ℕ) → Whole (s .table) (s .queue) → Whole (consed s x y .after .table) (consed s x y .after .queue)
 unfolding consed machine answered accepted
 cons-whole s x y w = machine-whole s (row (cons x y)) w
 
 pub built-whole : (s : Store) (t : Tree) → Whole (s .table) (s .queue) → Whole (buildBy consed s t .after .table) (buildBy consed s t .after .queue)
-unfolding buildBy
-built-whole s nil w = w
-built-whole s (atom v) w = w
-built-whole s (pair a d) w =
-    let x = buildBy consed s a in
-    let y = buildBy consed (x .after) d in
-    cons-whole (y .after) (x .word) (y .word) (built-whole (x .after) d (built-whole s a w))
+built-whole s t w = built-keeps consed (λ u. Whole (u .table) (u .queue)) cons-whole s t w
 
 -- on a sound store all that a call gives is decided
 pub decided : (s : Store) (call : Call) → Sound (s .table) (s .queue) → Decided s call

@@ -5,7 +5,7 @@ use mathlib.Core.List.{List, [], _∷_}
 use Prim.Native.Nat.{ℕ, suc}
 use native.Mathlib.Omega.{arith}
 use lib.Dec.{eqb}
-use Rattle.notation.specs.Trees.{Tree, nil, atom, pair}
+use Rattle.notation.specs.Trees.{Tree}
 use Rattle.notation.specs.Parse.{parse, meaning}
 use Rattle.machine.specs.declared.Queue.{Queue}
 use Rattle.machine.specs.Range.{everyOf}
@@ -21,7 +21,7 @@ use Rattle.machine.specs.Machine.{consed, textRead, accepted, answered, machine
 use Rattle.machine.specs.Promise.{Promise}
 use Rattle.machine.proofs.Range.{and-first, and-second}
 use Rattle.machine.proofs.Questions.{AllYes}
-use Rattle.machine.proofs.Kept.{machine-cases, gives-machine}
+use Rattle.machine.proofs.Kept.{machine-cases, built-keeps, gives-machine}
 use Rattle.machine.proofs.NilReads.{row-cases}
 use Rattle.soundness.specs.Demand3.{Link, Joined, Begun, tableAfter}
 use Rattle.soundness.specs.Reliable.{Fields, fields, puts, FieldsStand, NoneClipped}
@@ -29,7 +29,7 @@ use Rattle.soundness.specs.Whole.{Whole}
 use Rattle.soundness.proofs.Facts.{sound-facts}
 use Rattle.soundness.proofs.RowQuestions.{RowYes, row-yes}
 use Rattle.soundness.proofs.BuiltCells.{cell-storable}
-use Rattle.soundness.proofs.CallSound.{fresh-whole, built-whole, decided, promise-whole, value-accepted}
+use Rattle.soundness.proofs.CallSound.{fresh-whole, cons-whole, decided, promise-whole, value-accepted}
 use Rattle.soundness.proofs.FieldsStand.{row-put, stepped-put, fresh-put}
 
 abbrev Storable : Fields → Type 0
@@ -77,14 +77,9 @@ cons-unclipped s x y w k =
     machine-cases s (row (cons x y)) (λ o. Unclipped (o .after .table)) (row-unclipped s (cons x y) w k) (λ n e. k)
 
 built-unclipped : (s : Store) (tree : Tree) → Whole (s .table) (s .queue) → Unclipped (s .table) → Unclipped (buildBy consed s tree .after .table)
-unfolding buildBy
-built-unclipped s nil w k = k
-built-unclipped s (atom v) w k = k
-built-unclipped s (pair a d) w k =
-    let x = buildBy consed s a in
-    let y = buildBy consed (x .after) d in
-    let between = built-whole s a w in
-    cons-unclipped (y .after) (x .word) (y .word) (built-whole (x .after) d between) (built-unclipped (x .after) d between (built-unclipped s a w k))
+built-unclipped s tree w k =
+    built-keeps consed (λ u. Whole (u .table) (u .queue) × Unclipped (u .table))
+    (λ u x y h. (cons-whole u x y (h .0), cons-unclipped u x y (h .0) (h .1))) s tree (w, k) .1
 
 fresh-unclipped : (s : Store) (c : ℕ) → firstNo (questions s (fresh c)) ≡ 0 → Unclipped (accepted s (fresh c) .after .table)
 unfolding accepted

@@ -27,7 +27,7 @@ use Rattle.machine.specs.Answers.{rowReply}
 use Rattle.machine.specs.Promise.{Decided, Untouched, numbers, Promise}
 use Rattle.machine.proofs.Words.{index-cell}
 use Rattle.machine.proofs.Questions.{firstNo-append, firstNo-none, firstNo-number, firstNo-zero, early-numbered}
-use Rattle.machine.proofs.Kept.{untouched-trans, unmoved, untouched-built, machine-accepted, machine-refused}
+use Rattle.machine.proofs.Kept.{untouched-trans, unmoved, built-keeps, untouched-built, machine-accepted, machine-refused}
 use Rattle.soundness.specs.Whole.{Whole}
 use Rattle.soundness.proofs.Facts.{sound-facts}
 use Rattle.soundness.proofs.FreeCells.{chain-length}
@@ -90,19 +90,11 @@ built-same s (pair a d) e w =
 
 -- building touches nothing but cells, on any store
 code-untouched : (s : Store) (tree : Tree) → s .scratch ≡ [] → Untouched s (buildBy codeCons s tree .after) × (buildBy codeCons s tree .after .scratch ≡ [])
-unfolding buildBy
-code-untouched s nil e = (unmoved s, e)
-code-untouched s (atom n) e = (unmoved s, e)
-code-untouched s (pair a d) e =
-    let x = buildBy codeCons s a in
-    let y = buildBy codeCons (x .after) d in
-    let first = code-untouched s a e in
-    let second = code-untouched (x .after) d (first .1) in
-    let o = outcomeOf (y .after .table) (y .after .queue) (cons (x .word) (y .word)) in
-    let third : Untouched (y .after) (o .after) = rw (own (y .after) (second .1)) (outcome-bounded (y .after .table) (y .after .queue) (cons (x .word) (y .word))) in (
-      untouched-trans s (x .after) (o .after) (first .0) (untouched-trans (x .after) (y .after) (o .after) (second .0) third),
-      no-words (o .after .scratch) (third .scratchLength ∙ ap length (second .1)),
-    )
+code-untouched s tree e =
+    built-keeps codeCons (λ u. Untouched s u × (u .scratch ≡ [])) (λ u x y h.
+    let o = codeCons u x y .after in
+    let once : Untouched u o = rw (own u (h .1)) (outcome-bounded (u .table) (u .queue) (cons x y)) in
+    (untouched-trans s u o (h .0) once, no-words (o .scratch) (once .scratchLength ∙ ap length (h .1)))) s tree (unmoved s, e)
   where
     own : (v : Store) → v .scratch ≡ [] → v ≡ store (v .table) (v .queue) []
     own v k = ap (λ (l : List ℕ). store (v .table) (v .queue) l) k
