@@ -2,6 +2,7 @@
 //! rules before it.
 
 use crate::collector;
+use crate::naming;
 use crate::question::{self, Refusal};
 use crate::queue::{self, Packet, Queue};
 use crate::table::*;
@@ -34,11 +35,11 @@ fn examine(table: &[u16], queue: &Queue, cells: u16, work: &mut [u16]) -> Verdic
         Verdict::Broken(Rule::Cells)
     } else if !free_chain_holds(table, cells, work) {
         Verdict::Broken(Rule::FreeChain)
-    } else if !packets_hold(table, queue, cells, work) {
+    } else if !packets_hold(table, queue, cells, work) || !named_hold(table, queue, work) {
         Verdict::Broken(Rule::Packets)
     } else if !pointers_hold(table, queue, cells, work) {
         Verdict::Broken(Rule::Pointers)
-    } else if !all_reached(table, queue, cells, work) {
+    } else if !all_reached(table, cells, work) {
         Verdict::Broken(Rule::Reached)
     } else {
         Verdict::Sound
@@ -80,7 +81,8 @@ fn free_chain_holds(table: &[u16], cells: u16, met: &mut [u16]) -> bool {
             return false;
         }
         let cell = &table[at(x)..at(x) + CELL_WORDS];
-        if cell[RIGHT..] != [0, 0, 0, FREE] {
+        // The sixth word too: a free cell's other words are 0.
+        if cell[RIGHT..] != [0, 0, 0, FREE, 0] {
             return false;
         }
         met[x as usize - 1] = 1;
@@ -101,6 +103,15 @@ fn packets_hold(table: &[u16], queue: &Queue, cells: u16, held: &mut [u16]) -> b
         && queue
             .waiting()
             .all(|packet| is_well_formed(table, cells, packet) && replay(held, packet))
+}
+
+/// S3 of the sixth words (A6): each is how often the waiting packets name its
+/// cell. That of a free cell S2 has seen.
+fn named_hold(table: &[u16], queue: &Queue, times: &mut [u16]) -> bool {
+    naming::count(queue, times);
+    (1..)
+        .zip(times)
+        .all(|(x, times)| table[at(x) + NAMED] == *times)
 }
 
 fn is_well_formed(table: &[u16], cells: u16, packet: Packet) -> bool {
@@ -243,8 +254,8 @@ fn undo(table: &[u16], undone: &mut Undone, pointers: &mut [u16], packet: Packet
     }
 }
 
-/// S5, with the fields and the queue as they are.
-fn all_reached(table: &[u16], queue: &Queue, cells: u16, marks: &mut [u16]) -> bool {
-    collector::mark(table, queue, marks);
+/// S5, with the cells as they are.
+fn all_reached(table: &[u16], cells: u16, marks: &mut [u16]) -> bool {
+    collector::mark(table, marks);
     (1..=cells).all(|x| table[at(x) + STATE] != IN_USE || marks[x as usize - 1] != 0)
 }

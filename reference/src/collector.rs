@@ -1,5 +1,6 @@
 //! The collector step: make the oldest packet's changes, then mark and sweep.
 
+use crate::naming;
 use crate::question::{self, Refusal};
 use crate::queue::{self, Packet, Queue};
 use crate::table::*;
@@ -12,12 +13,12 @@ pub enum Step {
 
 pub fn step(table: &mut [u16], queue: &mut Queue, scratch: &mut [u16]) -> Result<Step, Refusal> {
     let cells = question::before_step_or_audit(table, queue, scratch)?;
-    let Some(packet) = queue.take() else {
+    let Some(packet) = naming::take(table, queue) else {
         return Ok(Step::Idle);
     };
     let marks = &mut scratch[..cells as usize];
     changes(packet, |change| add(table, cells, change));
-    mark(table, queue, marks);
+    mark(table, marks);
     let freed = sweep(table, marks);
     marks.fill(0);
     Ok(Step::Taken {
@@ -127,20 +128,20 @@ impl Worklist<'_> {
     }
 }
 
-/// Leaves the marks of exactly the reached cells other than 0. Roots are the
-/// cells with a root count above 0 and those that waiting packets name.
-pub fn mark(table: &[u16], queue: &Queue, marks: &mut [u16]) {
+/// Whether a cell is a root, told from the cell alone (A6): its root count is
+/// above 0, or a waiting packet names it.
+fn is_root(cell: &[u16; CELL_WORDS]) -> bool {
+    cell[ROOT_COUNT] > 0 || cell[NAMED] > 0
+}
+
+/// Leaves the marks of exactly the reached cells other than 0.
+pub fn mark(table: &[u16], marks: &mut [u16]) {
     marks.fill(0);
     let cells = cells_of(table, marks.len() as u16);
     let mut list = Worklist { marks, head: END };
     for (x, cell) in (1..).zip(cells) {
-        if cell[ROOT_COUNT] > 0 {
+        if is_root(cell) {
             list.reach(x);
-        }
-    }
-    for packet in queue.waiting() {
-        for word in packet.named() {
-            list.reach(word);
         }
     }
     while let Some(x) = list.next() {

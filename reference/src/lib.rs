@@ -2,7 +2,7 @@
 //! papers alone: table, packet queue, row calls, collector step, audit, the
 //! session program, the load program (request A2 of document 02), rule text in
 //! and out (A4), a runner for lists of stores, and generators. Document 01 is here
-//! what requests A1, A3 and A4 make of it.
+//! what requests A1, A3, A5 and A6 make of it.
 
 pub mod annotate;
 pub mod audit;
@@ -12,6 +12,7 @@ pub mod format;
 pub mod generate;
 pub mod lines;
 pub mod load;
+pub mod naming;
 pub mod notation;
 pub mod question;
 pub mod queue;

@@ -1,6 +1,7 @@
-//! Fresh and the row calls. A row call writes fields and queues a packet; the
-//! counts follow when the collector takes the packet.
+//! Fresh and the row calls. A row call writes fields, queues a packet and notes
+//! whom it names (A6); the counts follow when the collector takes the packet.
 
+use crate::naming;
 use crate::question::{self, Refusal};
 use crate::queue::{self, Packet, Queue};
 use crate::table::*;
@@ -19,15 +20,15 @@ pub fn fresh(table: &mut [u16], queue: &mut Queue, cells: u16) -> Result<(), Ref
     Ok(())
 }
 
-pub fn car(table: &[u16], queue: &mut Queue, x: u16) -> Result<u16, Refusal> {
+pub fn car(table: &mut [u16], queue: &mut Queue, x: u16) -> Result<u16, Refusal> {
     read(table, queue, x, LEFT)
 }
 
-pub fn cdr(table: &[u16], queue: &mut Queue, x: u16) -> Result<u16, Refusal> {
+pub fn cdr(table: &mut [u16], queue: &mut Queue, x: u16) -> Result<u16, Refusal> {
     read(table, queue, x, RIGHT)
 }
 
-fn read(table: &[u16], queue: &mut Queue, x: u16, side: usize) -> Result<u16, Refusal> {
+fn read(table: &mut [u16], queue: &mut Queue, x: u16, side: usize) -> Result<u16, Refusal> {
     let cells = question::before_read(table, queue, x)?;
     // The end of a list (A1): there is no cell to hold or to count.
     if x == NIL {
@@ -40,12 +41,13 @@ fn read(table: &[u16], queue: &mut Queue, x: u16, side: usize) -> Result<u16, Re
     if is_cell(word, cells) && word != x {
         question::held_after(table, queue, word, 1)?;
     }
-    queue.push(Packet {
+    let packet = Packet {
         kind: queue::READ,
         a: x,
         b: word,
         c: 0,
-    });
+    };
+    naming::push(table, queue, packet);
     Ok(word)
 }
 
@@ -69,13 +71,14 @@ pub fn cons(table: &mut [u16], queue: &mut Queue, x: u16, y: u16) -> Result<u16,
     if next == NIL {
         table[LAST_FREE] = NIL;
     }
-    table[at(new)..at(new) + CELL_WORDS].copy_from_slice(&[x, y, 1, 0, IN_USE]);
-    queue.push(Packet {
+    table[at(new)..at(new) + CELL_WORDS].copy_from_slice(&[x, y, 1, 0, IN_USE, 0]);
+    let packet = Packet {
         kind: queue::CONS,
         a: x,
         b: y,
         c: new,
-    });
+    };
+    naming::push(table, queue, packet);
     Ok(new)
 }
 
@@ -105,38 +108,41 @@ fn replace(
         question::pointers_after(table, queue, y, 1)?;
     }
     table[at(x) + side] = y;
-    queue.push(Packet {
+    let packet = Packet {
         kind,
         a: y,
         b: detached,
         c: x,
-    });
+    };
+    naming::push(table, queue, packet);
     Ok(detached)
 }
 
-pub fn up(table: &[u16], queue: &mut Queue, x: u16, n: u16) -> Result<(), Refusal> {
+pub fn up(table: &mut [u16], queue: &mut Queue, x: u16, n: u16) -> Result<(), Refusal> {
     question::before_up_or_down(table, queue, x, n)?;
     question::held(table, queue, x, 1)?;
     question::slot_empty(queue)?;
     question::held_after(table, queue, x, n)?;
-    queue.push(Packet {
+    let packet = Packet {
         kind: queue::UP,
         a: x,
         b: n,
         c: 0,
-    });
+    };
+    naming::push(table, queue, packet);
     Ok(())
 }
 
-pub fn down(table: &[u16], queue: &mut Queue, x: u16, n: u16) -> Result<(), Refusal> {
+pub fn down(table: &mut [u16], queue: &mut Queue, x: u16, n: u16) -> Result<(), Refusal> {
     question::before_up_or_down(table, queue, x, n)?;
     question::held(table, queue, x, n)?;
     question::slot_empty(queue)?;
-    queue.push(Packet {
+    let packet = Packet {
         kind: queue::DOWN,
         a: x,
         b: n,
         c: 0,
-    });
+    };
+    naming::push(table, queue, packet);
     Ok(())
 }

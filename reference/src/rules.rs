@@ -9,13 +9,13 @@ use crate::notation::MAX_TEXT;
 use crate::question::Refusal;
 use crate::rule_text;
 use crate::store::Store;
-use crate::table::{is_cell, length};
+use crate::table::is_cell;
 
 const CELLS: u16 = 64;
 const BUFFER: usize = 4_096;
 
 pub fn run(input: impl BufRead, mut output: impl Write) -> io::Result<()> {
-    let mut store = Store::zeroed(length(CELLS), CELLS as usize);
+    let mut store = Store::for_any_fresh();
     Call::Fresh(CELLS).perform(&mut store);
     // A line of which one byte over 4,096 is kept is refused as the whole is.
     let mut lines = Lines::new(input, MAX_TEXT + 1);

@@ -22,7 +22,9 @@ pub const RIGHT: usize = 1;
 pub const ROOT_COUNT: usize = 2;
 pub const CELL_COUNT: usize = 3;
 pub const STATE: usize = 4;
-pub const CELL_WORDS: usize = 5;
+/// How many times waiting packets name the cell (A6).
+pub const NAMED: usize = 5;
+pub const CELL_WORDS: usize = 6;
 
 pub const FREE: u16 = 0;
 pub const IN_USE: u16 = 1;

@@ -47,13 +47,20 @@ fn passes_4096(store: &Store) -> bool {
 }
 
 /// The step with the changes in this order: they are made beforehand, and the
-/// packet taken, of the same kind, makes none.
+/// packet taken, of the same kind, makes none and names nothing, so that its names
+/// are taken off beforehand too (A6).
 fn step_in_order(before: &Store, order: &[Change]) -> (Reply, Store) {
     let mut store = before.clone();
     for &change in order {
         changes::make(&mut store.table, change);
     }
-    let kind = changes::oldest(before).kind;
+    let oldest = changes::oldest(before);
+    for word in oldest.named() {
+        if is_cell(word, store.table[CELLS]) {
+            store.table[at(word) + NAMED] -= 1;
+        }
+    }
+    let kind = oldest.kind;
     let blank = Packet {
         kind,
         ..Packet::ZERO

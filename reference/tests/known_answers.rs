@@ -46,9 +46,9 @@ fn k1_table() {
     }
     let expected = [
         3, 3, 2, //
-        2, 0, 0, 0, 0, //
-        0, 0, 0, 0, 0, //
-        1, 0, 0, 0, 0,
+        2, 0, 0, 0, 0, 0, //
+        0, 0, 0, 0, 0, 0, //
+        1, 0, 0, 0, 0, 0,
     ];
     assert_eq!(store.table, expected);
     assert_eq!((store.queue.place, store.queue.count), (5, 0));

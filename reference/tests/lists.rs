@@ -286,9 +286,9 @@ fn each_rule_is_broken_ten_times() {
 
 #[test]
 fn a_store_can_be_changed_word_by_word() {
-    let list = "T 8 1 8 0\nS 1 1 1 5\nC 0 1 0\nW 7 1\nC 9 0 0\nW 7 0\nB 9 0 0\n";
-    let expected = "C 0 1 0 OK 0\nT 8 2 3 1 5 0\nQ 0 0 0\nS 1 1 1 5\n\
-                    C 9 0 0 BROKEN 2\nT 8 3 3 1 4 0 1 1\nQ 0 0 0\nS 1 1 1 0\n\
+    let list = "T 9 1 9 0\nS 1 1 1 5\nC 0 1 0\nW 7 1\nC 9 0 0\nW 7 0\nB 9 0 0\n";
+    let expected = "C 0 1 0 OK 0\nT 9 2 3 1 6 0\nQ 0 0 0\nS 1 1 1 5\n\
+                    C 9 0 0 BROKEN 2\nT 9 4 3 1 4 0 1 1 1 0\nQ 0 0 0\nS 1 1 1 0\n\
                     B 9 0 0 SOUND\nH ";
     assert!(fast_output(list).starts_with(expected));
     assert_same("words", list);
@@ -311,17 +311,17 @@ fn malformed_lists_are_errors() {
         "C 11 0 2",
         "C 11 0 2 256",
         "C 11 65536 2 0",
-        "T 8 2 3 1 5 0\nU 10 2 40 41",
-        "T 8 2 3 1 5 0\nU 11 0 2 0",
-        "T 8 2 3 1 5 2\nU 10 1 41",
-        "T 8 2 3 1 5 2\nU 11 2 2 0",
+        "T 9 2 3 1 6 0\nU 10 2 40 41",
+        "T 9 2 3 1 6 0\nU 11 0 2 0",
+        "T 9 2 3 1 6 2\nU 10 1 41",
+        "T 9 2 3 1 6 2\nU 11 2 2 0",
         "Q 0 0 1 64 0 0 0 0",
         "C 1 2",
         "U 9 0 0",
-        "T 8 1 8 0\nU 0 1 0",
-        "T 8 2 3 1 5 0\nU 3 0 0",
-        "T 8 2 3 1 5 2\nU 1 0 0",
-        "T 8 2 3 1 5 2\nU 2 0 0",
+        "T 9 1 9 0\nU 0 1 0",
+        "T 9 2 3 1 6 0\nU 3 0 0",
+        "T 9 2 3 1 6 2\nU 1 0 0",
+        "T 9 2 3 1 6 2\nU 2 0 0",
     ] {
         assert!(states::run(list.as_bytes(), Vec::new()).is_err(), "{list}");
     }
@@ -370,10 +370,10 @@ fn annotation_goes_by_the_calls_kept() {
         }
     }
     // Without the step, which document 01 doesn't decide, fresh is decided.
-    let list = "T 8 2 3 1 5 2\nS 1 1 1 0\nB 8 0 0\nC 0 1 0\n";
-    let all = "T 8 2 3 1 5 2\nS 1 1 1 0\nU 8 0 0\nU 0 1 0\n";
+    let list = "T 9 2 3 1 6 2\nS 1 1 1 0\nB 8 0 0\nC 0 1 0\n";
+    let all = "T 9 2 3 1 6 2\nS 1 1 1 0\nU 8 0 0\nU 0 1 0\n";
     assert_eq!(annotated(list, "0-9"), all);
-    let kept = "T 8 2 3 1 5 2\nS 1 1 1 0\nC 0 1 0\n";
+    let kept = "T 9 2 3 1 6 2\nS 1 1 1 0\nC 0 1 0\n";
     assert_eq!(annotated(list, "0-7"), kept);
     assert!(annotate::run(Codes::parse("0-7").unwrap(), all.as_bytes(), Vec::new()).is_err());
     assert_eq!(fast_output(all), "U 8 0 0 UNDECIDED\nU 0 1 0 UNDECIDED\n");
@@ -383,20 +383,20 @@ fn annotation_goes_by_the_calls_kept() {
 /// audit, until an undecided call makes the store itself unknown.
 #[test]
 fn nil_reads_are_decided_on_damaged_stores() {
-    let store = "T 8 2 3 1 5 2\nS 1 1 1 0\n";
+    let store = "T 9 2 3 1 6 2\nS 1 1 1 0\n";
     let calls = "C 1 0 0\nC 2 0 0\nC 8 0 0\nC 1 0 0\n";
     let marked = format!("{store}C 1 0 0\nC 2 0 0\nU 8 0 0\nU 1 0 0\n");
     let list = format!("{store}{calls}");
     assert_eq!(annotated(&list, "0-9"), marked);
-    let unchanged = "T 8 2 3 1 5 2\nQ 0 0 0\nS 1 1 1 0\n";
+    let unchanged = "T 9 2 3 1 6 2\nQ 0 0 0\nS 1 1 1 0\n";
     let expected = format!(
         "C 1 0 0 OK 0\n{unchanged}C 2 0 0 OK 0\n{unchanged}\
          U 8 0 0 UNDECIDED\nU 1 0 0 UNDECIDED\n"
     );
     assert_eq!(fast_output(&marked), expected);
     assert_same("reads of nil", &list);
-    let unfit = "T 7 2 3 1 4 2\nC 1 0 0\n";
-    let refused = "C 1 0 0 NO 1\nT 7 2 3 1 4 2\nQ 0 0 0\nS 0 0\n";
+    let unfit = "T 8 2 3 1 5 2\nC 1 0 0\n";
+    let refused = "C 1 0 0 NO 1\nT 8 2 3 1 5 2\nQ 0 0 0\nS 0 0\n";
     assert_eq!(fast_output(unfit), refused);
 }
 
@@ -438,6 +438,26 @@ fn gate_lists_give_what_is_stored() {
     for name in ["calls", "steps", "audits"] {
         let (list, output) = gate(name);
         assert_same_text(name, &output, &fast_output(&list));
+    }
+}
+
+/// The list of A6, of which both machines give what is stored.
+#[test]
+fn named_cases_give_what_is_stored() {
+    let (list, output) = gate("named");
+    assert_same_text("named", &output, &fast_output(&list));
+    assert_same_text("named", &output, &slow_output(&list));
+    for code in 0..=11 {
+        let accepted = |line: &&str| {
+            let mut parts = line.split(' ');
+            matches!(parts.next(), Some("C" | "B"))
+                && parts.next() == Some(&code.to_string())
+                && [" OK ", " TAKEN ", " SOUND"]
+                    .iter()
+                    .any(|word| line.contains(word))
+        };
+        let times = output.lines().filter(accepted).count();
+        assert!(times >= 20, "{code}: {times}");
     }
 }
 
@@ -605,7 +625,7 @@ fn count(output: &str, reply: &str) -> usize {
 fn gate_lists_have_what_they_are_for() {
     for (name, last) in [("calls", 7), ("steps", 8), ("audits", 9)] {
         let (list, output) = gate(name);
-        assert!(list.len() < 1_000_000 && output.len() < 2_000_000, "{name}");
+        assert!(list.len() < 1_200_000 && output.len() < 2_000_000, "{name}");
         for line in list.lines() {
             let (letter, rest) = line.split_once(' ').unwrap();
             if matches!(letter, "C" | "B" | "U") {
@@ -628,10 +648,8 @@ fn gate_lists_have_what_they_are_for() {
             let fresh = format!(" 0 {cells} 0 OK 0");
             assert!(count(&output, &fresh) > 0, "{name}: fresh {cells}");
         }
-        if last > 7 {
-            assert!(count(&output, " TAKEN 5 4096") > 0, "{name}");
-        }
         if last > 8 {
+            assert!(count(&output, " TAKEN 5 4096") > 0, "{name}");
             for rule in 1..=5 {
                 let times = count(&output, &format!(" BROKEN {rule}"));
                 assert!(times >= 10, "{name}: BROKEN {rule} {times} times");
@@ -736,7 +754,7 @@ fn text_cases_have_what_they_are_for() {
 /// audit: 1, 11, 12 and 14 of reading, 1 and 4 of writing.
 #[test]
 fn text_calls_on_damaged_stores() {
-    let store = "T 8 2 3 1 5 2\nQ 0 0 0\nS 1 1 1 0\n";
+    let store = "T 9 2 3 1 6 2\nQ 0 0 0\nS 1 1 1 0\n";
     let deep = format!("66{}{}", " 40".repeat(33), " 41".repeat(33));
     for (call, reply) in [
         ("10 1 41".to_string(), "10 1 NO 11"),
@@ -754,7 +772,7 @@ fn text_calls_on_damaged_stores() {
         };
         let expected = format!("C {first}\n{store}{buffer}");
         assert_eq!(fast_output(&format!("{store}C {call}\n")), expected);
-        let unfit = "T 7 2 3 1 4 2\nQ 0 0 0\nS 0 0\n";
+        let unfit = "T 8 2 3 1 5 2\nQ 0 0 0\nS 0 0\n";
         let output = fast_output(&format!("{unfit}C {call}\n"));
         assert!(
             output.lines().next().unwrap().ends_with(" NO 1"),
@@ -783,13 +801,13 @@ fn text_calls_on_damaged_stores() {
 /// The lines of a text call, worked out by hand.
 #[test]
 fn text_calls_in_a_list() {
-    let list = "T 13 1 13 0\nS 1 1 1 5\nC 0 2 0\nC 10 7 40 49 32 46 32 50 41\n\
+    let list = "T 15 1 15 0\nS 1 1 1 5\nC 0 2 0\nC 10 7 40 49 32 46 32 50 41\n\
                 C 11 1 9 35\nB 11 1 6 35\n";
     let output = fast_output(list);
     let after = "Q 0 1 1 0 2 32769 32770 1\nS 1 1 1 5\n";
-    let table = "T 13 7 3 2 1 32769 1 32770 1 1 1 0 1 1 5 0\n";
+    let table = "T 15 7 3 2 1 32769 1 32770 1 1 1 0 2 1 6 0\n";
     let whole = format!(
-        "C 0 2 0 OK 0\nT 13 4 1 2 1 1 2 2 9 0\nQ 0 0 0\nS 1 1 1 5\n\
+        "C 0 2 0 OK 0\nT 15 4 1 2 1 1 2 2 11 0\nQ 0 0 0\nS 1 1 1 5\n\
          C 10 7 OK 1\n{table}{after}C 11 1 9 35 OK 7\n{table}{after}\
          F 9 8 1 40 1 49 1 32 1 46 1 32 1 50 1 41 2 35\nB 11 1 6 35 NO 13\nH "
     );

@@ -549,7 +549,7 @@ fn text_comes_back() {
         let calls = rng.below(40);
         let mut second = random_store(&mut rng, room, calls).store;
         let free = second.table[3..]
-            .chunks(5)
+            .chunks(6)
             .filter(|cell| cell[4] == 0)
             .count();
         let slots = 64 - second.queue.count as usize;

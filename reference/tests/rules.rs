@@ -66,7 +66,7 @@ fn plain(input: &[u8]) -> String {
     let mut expected = String::new();
     let body = input.strip_suffix(b"\n").unwrap_or(input);
     for text in body.split(|&byte| byte == b'\n') {
-        let mut store = Store::zeroed(3 + 5 * 64, 64);
+        let mut store = Store::zeroed(3 + 6 * 64, 64);
         slow::perform(&mut store, reference::call::Call::Fresh(64));
         let mut buffer = vec![0; 4_096];
         let answer = slow::text::read(&mut store, text)

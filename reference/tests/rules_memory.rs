@@ -49,7 +49,8 @@ fn most(input: impl Read) -> usize {
 fn long_lines_are_not_kept() {
     for byte in [b'(', b' ', b'1', b'x'] {
         let long = most(io::repeat(byte).take(50_000_000));
-        assert!(long < 50_000, "{long}");
+        // A table for 4,096 cells and its scratch take 57,350 bytes.
+        assert!(long < 75_000, "{long}");
     }
 }
 
@@ -58,5 +59,6 @@ fn many_lines_are_not_kept() {
     let line = format!("({})\n", vec!["(1 . 2)"; 32].join(" "));
     let few = most(line.repeat(2).as_bytes());
     let many = most(line.repeat(5_000).as_bytes());
-    assert!(many <= few && few < 100_000, "{few} {many}");
+    // Reading makes its conses on a copy of the table.
+    assert!(many <= few && few < 130_000, "{few} {many}");
 }

@@ -4,7 +4,6 @@ use mathlib.Core.Bool.{Bool, true, false, _||_}
 use mathlib.Core.List.{List}
 use Prim.Native.Nat.{ℕ, _<_}
 use Rattle.machine.specs.Audit.{allReached}
-use Rattle.machine.specs.Queue.{Packet}
 use Rattle.machine.specs.Range.{every}
 use Rattle.machine.specs.Reached.{reached}
 use Rattle.machine.specs.Table.{capacity, inUse, isFree}
@@ -22,8 +21,7 @@ module _ (t s : List ℕ) (i : ℕ) where
   free-passes h = rw h
 
 -- where just the reached cells are marked
-pub marked-reached : (t : List ℕ) (ps : List Packet) (s : List ℕ) → ((i : ℕ) → i < capacity t → isMarked s i ≡ reached t ps i)
-    → every (capacity t) (freeOrMarked t s) ≡ allReached t ps
+pub marked-reached : (t s : List ℕ) → ((i : ℕ) → i < capacity t → isMarked s i ≡ reached t i) → every (capacity t) (freeOrMarked t s) ≡ allReached t
 unfolding allReached freeOrMarked
-marked-reached t ps s h =
-    every-same (capacity t) (freeOrMarked t s) (λ i. isFree t i || reached t ps i) (λ i l. ap (λ (b : Bool). isFree t i || b) (h i l))
+marked-reached t s h =
+    every-same (capacity t) (freeOrMarked t s) (λ i. isFree t i || reached t i) (λ i l. ap (λ (b : Bool). isFree t i || b) (h i l))

@@ -12,7 +12,7 @@ use Rattle.machine.specs.declared.Refusal.{Refusal}
 use Rattle.machine.specs.declared.Rule
 use Rattle.machine.specs.declared.Rule.{Rule}
 use Rattle.machine.specs.Answers.{refusalNumber, ruleNumber}
-use Rattle.machine.specs.Audit.{cellsSound, chainSound, otherSlotsZero, packetsLegal, packetsSound, pointersSound, allReached, rules, auditReply, audited}
+use Rattle.machine.specs.Audit.{cellsSound, chainSound, otherSlotsZero, packetsLegal, namesCounted, packetsSound, pointersSound, allReached, rules, auditReply, audited}
 use Rattle.machine.specs.Calls.{store, step, audit, refused, broken}
 use Rattle.machine.specs.Machine.{accepted, machine}
 use Rattle.machine.specs.Questions.{firstNo, early, late, questions}
@@ -31,7 +31,9 @@ use Rattle.audit.specs.Contract.{Judged, Audited}
 pub packets-legal : (t : List ℕ) (q : Queue) → packetsSound t q ≡ true → packetsLegal t (waiting q) ≡ true
 unfolding packetsSound replaysAll
 packets-legal t q h =
-    and-second (otherSlotsZero q) (packetsLegal t (waiting q)) (and-first (otherSlotsZero q && packetsLegal t (waiting q)) (replaysAll t q) h)
+    let legal = otherSlotsZero q && packetsLegal t (waiting q) in
+    and-second (otherSlotsZero q) (packetsLegal t (waiting q))
+    (and-first legal (replaysAll t q) (and-first (legal && replaysAll t q) (namesCounted t (waiting q)) h))
 
 broken-reply : (r : Rule) → auditReply (ruleNumber r) ≡ broken (ruleNumber r)
 unfolding auditReply
@@ -62,10 +64,10 @@ module _ (t : List ℕ) (q : Queue) (s s′ : List ℕ) (past : drop (scratchWor
         pointers-broken d = judged-broken Rule.Pointers (unfold rules firstNo in (rw (a, b, c, d)))
 
         module _ (d : pointersSound t (waiting q) ≡ true) where
-          pub reached-broken : allReached t (waiting q) ≡ false → Judged t q s s′ (AuditAnswer.Broken Rule.Reached)
+          pub reached-broken : allReached t ≡ false → Judged t q s s′ (AuditAnswer.Broken Rule.Reached)
           reached-broken e = judged-broken Rule.Reached (unfold rules firstNo in (rw (a, b, c, d, e)))
 
-          pub none-broken : allReached t (waiting q) ≡ true → Judged t q s s′ AuditAnswer.Sound
+          pub none-broken : allReached t ≡ true → Judged t q s s′ AuditAnswer.Sound
           none-broken e = record { reply = sym (ap auditReply none ∙ (unfold auditReply in refl)); past = past }
             where
               none : firstNo (rules t q) ≡ 0

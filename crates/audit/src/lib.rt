@@ -25,13 +25,13 @@ fn judge(table: &[u16], queue: Queue, scratch: &mut [u16]) -> AuditAnswer
     if !chain_sound(table) {
         return AuditAnswer::Broken(Rule::FreeChain);
     }
-    if !packets_sound(table, queue) {
+    if !packets_sound(table, queue, scratch) {
         return AuditAnswer::Broken(Rule::Packets);
     }
     if !pointers_sound(table, queue, scratch) {
         return AuditAnswer::Broken(Rule::Pointers);
     }
-    if !all_reached(table, queue, scratch) {
+    if !all_reached(table, scratch) {
         return AuditAnswer::Broken(Rule::Reached);
     }
     AuditAnswer::Sound

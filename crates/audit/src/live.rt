@@ -1,5 +1,4 @@
 // S5: every cell in use is reached. The marks tell.
-use machine::Queue;
 use marks::is_marked;
 use marks::mark;
 ghost use mathlib.Core.Path.{_≡_};
@@ -7,10 +6,9 @@ ghost use Prim.Native.Nat.{suc, _<_, _≤_};
 ghost use lib.ListN.{length};
 ghost use Rattle.machine.specs.Range.{every};
 ghost use Rattle.machine.specs.Table.{capacity, scratchWords};
-ghost use Rattle.machine.specs.Queue.{waiting};
-ghost use Rattle.machine.specs.Facts.{TableShape, Lent};
+ghost use Rattle.machine.specs.Facts.{TableShape};
 ghost use Rattle.machine.specs.Audit.{allReached};
-ghost use Rattle.audit_pointers.specs.UndoStages.{Audits};
+ghost use Rattle.audit_packets.specs.Answers.{Audits};
 ghost use Rattle.audit.specs.Live.{freeOrMarked};
 
 fn free_or_marked(table: &[u16], scratch: &[u16], index: usize) -> bool
@@ -38,19 +36,10 @@ fn used_marked(table: &[u16], scratch: &[u16]) -> bool
     true
 }
 
-pub(crate) fn all_reached(table: &[u16], queue: Queue, scratch: &mut [u16]) -> bool
-    requires { ⌜ Lent (now table) queue (now scratch) ⌝ }
-    ensures { λ r. ⌜ Audits (now (table .entry)) (allReached (now (table .entry)) (waiting queue)) (now (scratch .entry)) (now (scratch .exit)) r ⌝ }
+pub(crate) fn all_reached(table: &[u16], scratch: &mut [u16]) -> bool
+    requires { ⌜ TableShape (now table) × (scratchWords (capacity (now table)) ≤ length (now scratch)) ⌝ }
+    ensures { λ r. ⌜ Audits (now (table .entry)) (allReached (now (table .entry))) (now (scratch .entry)) (now (scratch .exit)) r ⌝ }
 {
-    mark(
-        table,
-        &queue.kinds,
-        &queue.a,
-        &queue.b,
-        &queue.c,
-        queue.place,
-        queue.count,
-        scratch,
-    );
+    mark(table, scratch);
     used_marked(table, scratch)
 }

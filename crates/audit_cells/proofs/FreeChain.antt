@@ -12,7 +12,7 @@ use borrow.Author.Tests.{eqb-true, eqb-false}
 use Rattle.machine.specs.Audit.{freeChain, laidOut, metOnce, chainSound}
 use Rattle.machine.specs.Facts.{Linked, Chain}
 use Rattle.machine.specs.Range.{every, total, matching, occurrences, everyOf, lastOf}
-use Rattle.machine.specs.Table.{left, right, rootCount, cellCount, state, capacity, firstFree, lastFree, wordAt, inUse, isFree}
+use Rattle.machine.specs.Table.{left, right, rootCount, cellCount, state, nameCount, capacity, firstFree, lastFree, wordAt, inUse, isFree}
 use Rattle.machine.specs.Words.{isCell}
 use Rattle.machine.proofs.Chain.{linked-indices, total-occurrences, laid-wiped, chain-is}
 use Rattle.machine.proofs.Lists.{lastOf-snoc}
@@ -223,9 +223,9 @@ laid-needed t h =
 
 -- what the code tests
 module _ (t : List ℕ) (i : ℕ) where
-  pub laid-last : wordAt t i right ≡ 0 → wordAt t i rootCount ≡ 0 → wordAt t i cellCount ≡ 0 → eqb (wordAt t i state) 0 ≡ laidOut t i
+  pub laid-last : wordAt t i right ≡ 0 → wordAt t i rootCount ≡ 0 → wordAt t i cellCount ≡ 0 → wordAt t i state ≡ 0 → eqb (wordAt t i nameCount) 0 ≡ laidOut t i
   unfolding laidOut every
-  laid-last r n m = rw (r, n, m)
+  laid-last r n m s = rw (r, n, m, s)
 
   pub used-passes : inUse t i ≡ true → freeOrUsed t i ≡ true
   unfolding freeOrUsed

@@ -21,7 +21,10 @@ fn laid_out(table: &[u16], index: usize) -> bool
     if cells::cell_count(table, index).0 != 0 {
         return false;
     }
-    cells::state_word(table, index) == 0
+    if cells::state_word(table, index) != 0 {
+        return false;
+    }
+    cells::name_count(table, index).0 == 0
 }
 
 fn free_or_used(table: &[u16], index: usize) -> bool

@@ -25,7 +25,8 @@ use Rattle.machine.proofs.Undo.{within-is}
 use Rattle.machine.proofs.Words.{cell-index, index-cell}
 use Rattle.audit_packets.specs.Packets.{packetOn}
 use Rattle.audit_pointers.specs.EarlierFields.{newer, stageField}
-use Rattle.audit_pointers.specs.PointerCounts.{CountUp, CountDown, Below, mostPointers, countWithin, wordWithin}
+use Rattle.scratch_counts.specs.Counts.{CountUp, CountDown, RoomForOne}
+use Rattle.audit_pointers.specs.PointerCounts.{countWithin, wordWithin}
 use Rattle.audit_pointers.specs.UndoStages.{stage, UsedCell, Undoable, Undoes, UndoesKind, UndoesPacket}
 use Rattle.audit_pointers.proofs.FieldPointers.{use-put, pointers-put}
 use Rattle.audit_pointers.proofs.EarlierFields.{AllPlaced, PlacedOf, Placed, all-placed, newer-step, Refielded, refielded, stage-field, Keeps, kept-undo}
@@ -95,8 +96,8 @@ module _ (t : List ℕ) (q : Queue) (j : ℕ) (s : List ℕ) (h : Undoable t q j
   long : tableLength (capacity v) ≤ length v
   long = rw (re .sameCapacity, re .sameLength) (h .able .lent .shape .table .room)
 
-  pub undo-below : (c : ℕ) → c ≡ capacity t → Below c (suc mostPointers) s
-  undo-below c e i l = omega (arith, h .each i (omega arith), within-is v .0 (h .within) i (omega (arith, re .sameCapacity)))
+  pub undo-room : (c : ℕ) → c ≡ capacity t → RoomForOne c s
+  undo-room c e i l = omega (arith, h .each i (omega arith), within-is v .0 (h .within) i (omega (arith, re .sameCapacity)))
 
   module _ (x : ℕ) (u : UsedCell t x) where
     low : pred x < capacity v

@@ -60,8 +60,3 @@ UndoesKind t q j κ a b c s s′ r =
 -- of the packet that waits there
 abbrev pub UndoesPacket : List ℕ → Queue → ℕ → List ℕ → List ℕ → Bool → Type 0
 UndoesPacket t q j s s′ r = Undoes (stage t q (j + 1)) (stage t q j) (undoable (stage t q (j + 1)) (packetOn q j)) (capacity t) s s′ r
-
--- a rule's answer, with the scratch's words past those that the table needs as they were
-pub record Audits (t : List ℕ) (rule : Bool) (s s′ : List ℕ) (r : Bool) : Type 0 where
-  pub answer : r ≡ rule
-  pub past : drop (scratchWords (capacity t)) s′ ≡ drop (scratchWords (capacity t)) s

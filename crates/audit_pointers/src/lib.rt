@@ -1,24 +1,25 @@
 // S4: undo the packets newest first. A replaced field must hold a, and gets b; a new cell must hold a and b, and gets nil twice. At no stage do
 // more than 4,095 pointers meet one cell; at the end the cell counts are the pointers found.
-mod counts;
 mod earlier;
+mod pointers;
 
-use crate::counts::all_within;
-use crate::counts::count_pointers;
-use crate::counts::counts_match;
-use crate::counts::lower;
-use crate::counts::raise;
-use crate::counts::word_within;
 use crate::earlier::stage_field;
+use crate::pointers::all_within;
+use crate::pointers::count_pointers;
+use crate::pointers::counts_match;
+use crate::pointers::word_within;
 use audit_packets::slots::packet_on;
 use machine::Queue;
 use queue::Packet;
+use scratch_counts::lower;
+use scratch_counts::raise;
 ghost use Prim.Native.Nat.{_<_, _≤_};
 ghost use Rattle.machine.specs.Table.{right};
 ghost use Rattle.machine.specs.Queue.{waiting};
 ghost use Rattle.machine.specs.Packets.{makes, replaces};
 ghost use Rattle.machine.specs.Audit.{pointersSound};
-ghost use Rattle.audit_pointers.specs.UndoStages.{UsedCell, Stageable, Undoing, Undoable, UndoesKind, UndoesPacket, Audits};
+ghost use Rattle.audit_packets.specs.Answers.{Audits};
+ghost use Rattle.audit_pointers.specs.UndoStages.{UsedCell, Stageable, Undoing, Undoable, UndoesKind, UndoesPacket};
 
 fn undo_replace(
     table: &[u16],

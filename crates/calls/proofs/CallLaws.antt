@@ -5,22 +5,24 @@ use mathlib.Core.List.{List, [], _∷_, _++_}
 use Prim.Native.Nat.{ℕ, zero, suc, _-_, _≤_}
 use native.Mathlib.Omega.{arith}
 use lib.Dec.{leb, eqb}
+use lib.ListN.{length}
 use borrow.Author.Tests.{leb-true, eqb-false, not-true}
 use Rattle.machine.specs.declared.Queue.{Queue}
 use Rattle.machine.specs.declared.RowCall as declared
 use Rattle.machine.specs.declared.Asked.{Asked}
 use Rattle.machine.specs.Range.{everyOf}
 use Rattle.machine.specs.Words.{isNil, isCell, isAtom, isLegal, mayBeStored, ceiling}
-use Rattle.machine.specs.Table.{capacity, firstFree}
+use Rattle.machine.specs.Table.{capacity, firstFree, tableLength}
 use Rattle.machine.specs.Queue.{Packet, waiting}
 use Rattle.machine.specs.Packets.{root, cell, kindOf}
 use Rattle.machine.specs.Facts.{Shape}
-use Rattle.machine.specs.Calls.{RowCall, car, cdr, cons, setLeft, setRight, up, down, row, store, packetOf, readsNil}
+use Rattle.machine.specs.Calls.{RowCall, car, cdr, cons, setLeft, setRight, up, down, row, store, packetOf, readsNil, written}
 use Rattle.machine.specs.Questions.{Question, ask, firstNo, refusedBy, inRange, numberInRange, wordsLegal, xIsCell, wordsStorable, heldEnough, slotEmpty, askRead, earlyRow, early}
 use Rattle.machine.specs.Answers.{askedNumber, callOf}
 use Rattle.machine.proofs.Range.{and-first}
 use Rattle.machine.proofs.Lists.{and-true}
 use Rattle.machine.proofs.NilReads.{read-cell}
+use Rattle.machine.proofs.Kept.{framed-written}
 use Rattle.machine.proofs.Questions.{Numbered, AllYes, firstNo-append, firstNo-none, firstNo-all, early-numbered, shape-is}
 use Rattle.calls.specs.Early.{wordsNumber, firstOf, cellNumber, storedNumber}
 use Rattle.calls.specs.Packets.{Operands}
@@ -134,6 +136,12 @@ module _ (t : List ℕ) (q : Queue) where
 
   pub passed-operands : (r : RowCall) (p : Packet) → EarlyYes t q r p → Operands t p
   passed-operands r p y = subst (Operands t) (sym (y .packet)) (early-operands r (y .queues) (y .early))
+
+  -- the table still has the words for its cells when the call has written
+  pub passed-room : (r : RowCall) (p : Packet) → EarlyYes t q r p → tableLength (capacity (written t r)) ≤ length (written t r)
+  passed-room r p y =
+      let f = framed-written (store t q []) r (all-early r (y .early)) in
+      rw (f .sameCapacity, f .sameLength) (early-shape r (y .early) .table .room)
 
   late-free : (x y : ℕ) → firstNo (codeLate t q (packetOf t (cons x y))) ≡ 0 → firstFree t ≡ 0 → ⊥
   unfolding codeLate firstNo freeByEnd kindOf packetOf

@@ -1,7 +1,8 @@
--- What a row call and a fresh give, for any table, queue and numbers: refused with nothing changed, or done as the machine does it.
+-- What a row call and a fresh give, for any table, queue and numbers: refused with nothing changed, or done as the machine does it, in name counts of
+-- 16 bits.
 use mathlib.Core.Path.{_≡_}
 use mathlib.Core.Bool.{true, false}
-use mathlib.Core.List.{List, []}
+use mathlib.Core.List.{List, [], _∷_}
 use Prim.Native.Nat.{ℕ}
 use Rattle.machine.specs.declared.Queue.{Queue}
 use Rattle.machine.specs.declared.Asked
@@ -9,12 +10,14 @@ use Rattle.machine.specs.declared.Asked.{Asked}
 use Rattle.machine.specs.declared.RowAnswer
 use Rattle.machine.specs.declared.RowAnswer.{RowAnswer}
 use Rattle.machine.specs.declared.FreshAnswer.{FreshAnswer}
-use Rattle.machine.specs.Queue.{Packet}
-use Rattle.machine.specs.Calls.{RowCall, row, fresh, store, packetOf, readsNil}
-use Rattle.machine.specs.Step.{Outcome}
+use Rattle.machine.specs.Queue.{Packet, appendedAll}
+use Rattle.machine.specs.Packets.{plus, names, nameChanges}
+use Rattle.machine.specs.Calls.{RowCall, row, fresh, value, store, packetOf, packetsOf, readsNil, written, valueOf}
+use Rattle.machine.specs.Step.{Outcome, outcome}
 use Rattle.machine.specs.Questions.{firstNo, early}
-use Rattle.machine.specs.Machine.{answered, machine}
+use Rattle.machine.specs.Machine.{refusedOr, machine}
 use Rattle.machine.specs.Answers.{rowReply, freshReply}
+use Rattle.counts.specs.Changes.{ChangesFit, namedFitting}
 use Rattle.calls.specs.Tests.{codeQuestions}
 
 -- the early questions say "yes" of the call r, which is no read of nil, and p is its packet
@@ -28,9 +31,24 @@ abbrev pub answerOf : Asked → ℕ → RowAnswer
 answerOf Asked.Yes v = RowAnswer.Done v
 answerOf (Asked.No f) v = RowAnswer.Refused f
 
--- the machine's answer to a row call under the code's questions
+-- packets queued in their order, their cells named in counters of 16 bits
+abbrev pub fittedAll : List ℕ → List Packet → List ℕ
+fittedAll t [] = t
+fittedAll t (p ∷ ps) = fittedAll (namedFitting t p) ps
+
+-- what an accepted row call gives: the machine's answer, but for names that do not fit
+unfoldable pub codeAccepted : List ℕ → Queue → RowCall → Outcome
+codeAccepted t q r =
+    let ps = packetsOf t r in
+    outcome (value (valueOf t r)) (store (fittedAll (written t r) ps) (appendedAll q ps) [])
+
+-- and all of them fit, if the call queues a packet
+abbrev pub NamesFit : List ℕ → RowCall → Type 0
+NamesFit t r = readsNil r ≡ false → ChangesFit (written t r) (nameChanges plus (names (packetOf t r)))
+
+-- the answer to a row call under the code's questions
 unfoldable pub outcomeOf : List ℕ → Queue → RowCall → Outcome
-outcomeOf t q r = answered (firstNo (codeQuestions t q r)) (store t q []) (row r)
+outcomeOf t q r = refusedOr (firstNo (codeQuestions t q r)) (store t q []) (codeAccepted t q r)
 
 -- the call but for what it writes
 pub record RowAsked (t : List ℕ) (q : Queue) (r : RowCall) (a : RowAnswer) (q′ : Queue) : Type 0 where

@@ -1,6 +1,7 @@
 // Fresh and the seven row calls, for any table, queue and numbers. Every row call but a read of nil goes the same way: its questions are asked, its packet
-// joins the queue, and it writes into the table only if no question says "no". The early questions, 1 to 5 and 14, look at no packet, so a call that one of
-// them refuses hands the queue back as it came; the others are asked of the queue that the packet is to join, so that it is copied once for both.
+// joins the queue, and only if no question says "no" it writes into the table and its packet's cells are named there. The early questions, 1 to 5 and 14, look
+// at no packet, so a call that one of them refuses hands the queue back as it came; the others are asked of the queue that the packet is to join, so that it is
+// copied once for both.
 mod chain;
 mod early;
 mod late;
@@ -10,6 +11,7 @@ mod tests;
 mod writes;
 
 use chain::make_chain;
+use counts::names::name_packet;
 use early::early_asked;
 use late::late_asked;
 use machine::Asked;
@@ -28,7 +30,7 @@ ghost use Rattle.machine.specs.Facts.{Shape};
 ghost use Rattle.machine.specs.Answers.{callOf};
 ghost use Rattle.queue.specs.Sums.{packetOf};
 ghost use Rattle.calls.specs.Packets.{Operands};
-ghost use Rattle.calls.specs.Called.{answerOf, RowAsked, Queued, NilRead, RowCalled, FreshCalled};
+ghost use Rattle.calls.specs.Called.{EarlyYes, answerOf, Queued, NilRead, RowCalled, FreshCalled};
 
 // A row call's answer beside the queue.
 pub struct RowReply {
@@ -122,9 +124,23 @@ fn nil_read(table: &[u16], queue: Queue) -> RowReply
     refused(queue, Refusal::StoreOutOfRange)
 }
 
-// A row call but for what it writes into the table.
-fn asked_row(table: &[u16], queue: Queue, call: RowCall) -> RowReply
-    ensures { λ r. ⌜ RowAsked (now (table .entry)) queue (callOf call) (r .answer) (r .queue) ⌝ }
+// Once the early questions have said "yes" of the call, whose packet is given: where the others do too, the call writes, and its packet names its cells.
+fn queue_and_write(table: &mut [u16], queue: Queue, call: RowCall, packet: Packet) -> RowReply
+    requires { ⌜ EarlyYes (now table) queue (callOf call) (packetOf packet) ⌝ }
+    ensures { λ r. ⌜ RowCalled (now (table .entry)) queue (callOf call) (r .answer) (now (table .exit)) (r .queue) ⌝ }
+{
+    let reply = queued(table, queue, packet);
+    let answer = reply.answer;
+    if let RowAnswer::Done(_) = answer {
+        write(table, call);
+        name_packet(table, packet.kind, packet.a, packet.b, packet.c);
+    }
+    reply
+}
+
+// Any row call.
+pub fn row(table: &mut [u16], queue: Queue, call: RowCall) -> RowReply
+    ensures { λ r. ⌜ RowCalled (now (table .entry)) queue (callOf call) (r .answer) (now (table .exit)) (r .queue) ⌝ }
 {
     if questions::reads_nil(call) {
         return nil_read(table, queue);
@@ -132,32 +148,23 @@ fn asked_row(table: &[u16], queue: Queue, call: RowCall) -> RowReply
     let asked = early_asked(table, queue.place, queue.count, call);
     match asked {
         Asked::No(refusal) => refused(queue, refusal),
-        Asked::Yes => queued(table, queue, packet_of(table, call)),
+        Asked::Yes => {
+            let packet = packet_of(table, call);
+            queue_and_write(table, queue, call, packet)
+        }
     }
 }
 
-// Any row call.
-pub fn row(table: &mut [u16], queue: Queue, call: RowCall) -> RowReply
-    ensures { λ r. ⌜ RowCalled (now (table .entry)) queue (callOf call) (r .answer) (now (table .exit)) (r .queue) ⌝ }
+pub fn car(table: &mut [u16], queue: Queue, x: u16) -> RowReply
+    ensures { λ r. ⌜ RowCalled (now (table .entry)) queue (car x) (r .answer) (now (table .exit)) (r .queue) ⌝ }
 {
-    let reply = asked_row(table, queue, call);
-    let answer = reply.answer;
-    if let RowAnswer::Done(_) = answer {
-        write(table, call);
-    }
-    reply
+    row(table, queue, RowCall::Car(x))
 }
 
-pub fn car(table: &[u16], queue: Queue, x: u16) -> RowReply
-    ensures { λ r. ⌜ RowCalled (now (table .entry)) queue (car x) (r .answer) (now (table .entry)) (r .queue) ⌝ }
+pub fn cdr(table: &mut [u16], queue: Queue, x: u16) -> RowReply
+    ensures { λ r. ⌜ RowCalled (now (table .entry)) queue (cdr x) (r .answer) (now (table .exit)) (r .queue) ⌝ }
 {
-    asked_row(table, queue, RowCall::Car(x))
-}
-
-pub fn cdr(table: &[u16], queue: Queue, x: u16) -> RowReply
-    ensures { λ r. ⌜ RowCalled (now (table .entry)) queue (cdr x) (r .answer) (now (table .entry)) (r .queue) ⌝ }
-{
-    asked_row(table, queue, RowCall::Cdr(x))
+    row(table, queue, RowCall::Cdr(x))
 }
 
 pub fn cons(table: &mut [u16], queue: Queue, x: u16, y: u16) -> RowReply
@@ -178,14 +185,14 @@ pub fn set_right(table: &mut [u16], queue: Queue, x: u16, y: u16) -> RowReply
     row(table, queue, RowCall::SetRight(x, y))
 }
 
-pub fn up(table: &[u16], queue: Queue, x: u16, n: u16) -> RowReply
-    ensures { λ r. ⌜ RowCalled (now (table .entry)) queue (up x n) (r .answer) (now (table .entry)) (r .queue) ⌝ }
+pub fn up(table: &mut [u16], queue: Queue, x: u16, n: u16) -> RowReply
+    ensures { λ r. ⌜ RowCalled (now (table .entry)) queue (up x n) (r .answer) (now (table .exit)) (r .queue) ⌝ }
 {
-    asked_row(table, queue, RowCall::Up(x, n))
+    row(table, queue, RowCall::Up(x, n))
 }
 
-pub fn down(table: &[u16], queue: Queue, x: u16, n: u16) -> RowReply
-    ensures { λ r. ⌜ RowCalled (now (table .entry)) queue (down x n) (r .answer) (now (table .entry)) (r .queue) ⌝ }
+pub fn down(table: &mut [u16], queue: Queue, x: u16, n: u16) -> RowReply
+    ensures { λ r. ⌜ RowCalled (now (table .entry)) queue (down x n) (r .answer) (now (table .exit)) (r .queue) ⌝ }
 {
-    asked_row(table, queue, RowCall::Down(x, n))
+    row(table, queue, RowCall::Down(x, n))
 }

@@ -3,16 +3,17 @@
 mod part;
 
 use machine::CellCount;
+use machine::NameCount;
 use machine::RootCount;
 ghost use mathlib.Core.Path.{_≡_};
 ghost use Prim.Native.Nat.{suc, _≤_};
 ghost use lib.ListN.{length, set};
-ghost use Rattle.machine.specs.Table.{header, right, rootCount, cellCount, state, newCell, freeCell, capacity, firstFree, lastFree, tableLength, scratchWords, wordAt, putWord, putEnds, putCell, inUse};
+ghost use Rattle.machine.specs.Table.{header, right, rootCount, cellCount, state, nameCount, newCell, freeCell, capacity, firstFree, lastFree, tableLength, scratchWords, wordAt, putWord, putEnds, putCell, inUse};
 
 // Words in front of the cells, and words of a cell.
 const HEADER: usize = 3;
 
-const STRIDE: usize = 5;
+const STRIDE: usize = 6;
 
 // The words of a table of the most cells.
 pub const MOST_WORDS: usize = HEADER + STRIDE * (machine::MOST_CELLS as usize);
@@ -44,6 +45,8 @@ const ROOT_COUNT: usize = 2;
 const CELL_COUNT: usize = 3;
 
 const STATE: usize = 4;
+
+const NAME_COUNT: usize = 5;
 
 // States: a free cell's, and a new cell's.
 const FREE: u16 = 0;
@@ -108,6 +111,20 @@ fn set_state(table: &mut [u16], index: usize, v: u16)
     part::set_state(&mut table[HEADER..], index, v);
 }
 
+pub fn name_count(table: &[u16], index: usize) -> NameCount
+    requires { ⌜ tableLength (suc index) ≤ length (now table) ⌝ }
+    ensures { λ r. ⌜ r .0 ≡ wordAt (now (table .entry)) index nameCount ⌝ }
+{
+    part::name_count(&table[HEADER..], index)
+}
+
+pub fn set_name_count(table: &mut [u16], index: usize, n: NameCount)
+    requires { ⌜ tableLength (suc index) ≤ length (now table) ⌝ }
+    ensures { λ r. ⌜ now (table .exit) ≡ putWord (now (table .entry)) index nameCount (n .0) ⌝ }
+{
+    part::set_name_count(&mut table[HEADER..], index, n);
+}
+
 pub fn in_use(table: &[u16], index: usize) -> bool
     requires { ⌜ tableLength (suc index) ≤ length (now table) ⌝ }
     ensures { λ r. ⌜ r ≡ inUse (now (table .entry)) index ⌝ }
@@ -125,9 +142,10 @@ pub fn set_free(table: &mut [u16], index: usize, next: u16)
     set_root_count(table, index, RootCount(0));
     set_cell_count(table, index, CellCount(0));
     set_state(table, index, FREE);
+    set_name_count(table, index, NameCount(0));
 }
 
-// A new cell: both operands, root count 1 and cell count 0.
+// A new cell: both operands, root count 1, cell count 0; no packet names it yet.
 pub fn set_new(table: &mut [u16], index: usize, x: u16, y: u16)
     requires { ⌜ tableLength (suc index) ≤ length (now table) ⌝ }
     ensures { λ r. ⌜ now (table .exit) ≡ putCell (now (table .entry)) index (newCell x y) ⌝ }
@@ -137,6 +155,7 @@ pub fn set_new(table: &mut [u16], index: usize, x: u16, y: u16)
     set_root_count(table, index, RootCount(1));
     set_cell_count(table, index, CellCount(0));
     set_state(table, index, USED);
+    set_name_count(table, index, NameCount(0));
 }
 
 // The header: C, the first free cell, the last free cell.

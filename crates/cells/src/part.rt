@@ -1,15 +1,17 @@
 // The cells: the part of the table that begins at word 3, lent to the functions that read and write fields and counts. Counters go in and out as
 // their own types.
 use crate::CELL_COUNT;
+use crate::NAME_COUNT;
 use crate::ROOT_COUNT;
 use crate::STATE;
 use crate::STRIDE;
 use machine::CellCount;
+use machine::NameCount;
 use machine::RootCount;
 ghost use mathlib.Core.Path.{_≡_};
 ghost use Prim.Native.Nat.{suc, _*_, _<_, _≤_};
 ghost use lib.ListN.{length};
-ghost use Rattle.machine.specs.Table.{stride, right, rootCount, cellCount, state};
+ghost use Rattle.machine.specs.Table.{stride, right, rootCount, cellCount, state, nameCount};
 ghost use Rattle.cells.specs.Part.{wordIn, putWordIn};
 
 fn word(cells: &[u16], index: usize, k: usize) -> u16
@@ -81,4 +83,18 @@ pub fn set_state(cells: &mut [u16], index: usize, v: u16)
     ensures { λ r. ⌜ now (cells .exit) ≡ putWordIn (now (cells .entry)) index state v ⌝ }
 {
     put_word(cells, index, STATE, v);
+}
+
+pub fn name_count(cells: &[u16], index: usize) -> NameCount
+    requires { ⌜ stride * suc index ≤ length (now cells) ⌝ }
+    ensures { λ r. ⌜ r .0 ≡ wordIn (now (cells .entry)) index nameCount ⌝ }
+{
+    NameCount(word(cells, index, NAME_COUNT))
+}
+
+pub fn set_name_count(cells: &mut [u16], index: usize, n: NameCount)
+    requires { ⌜ stride * suc index ≤ length (now cells) ⌝ }
+    ensures { λ r. ⌜ now (cells .exit) ≡ putWordIn (now (cells .entry)) index nameCount (n .0) ⌝ }
+{
+    put_word(cells, index, NAME_COUNT, n.0);
 }

@@ -1,5 +1,4 @@
 -- The collector's laws.
-pub mod Changes
 pub mod SweepPass
 pub mod SweepLoop
 pub mod StepContract

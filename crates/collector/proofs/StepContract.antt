@@ -3,7 +3,7 @@ use mathlib.Core.Path.{_≡_, refl, sym, ap, _∙_}
 use mathlib.Core.Logic.{⊎-elim}
 use mathlib.Core.Bool.{Bool, true, false, cond, not, _&&_, and-comm}
 use mathlib.Core.List.{List, [], _∷_}
-use Prim.Native.Nat.{ℕ, pred, _<_}
+use Prim.Native.Nat.{ℕ, pred, _≤_, _<_}
 use native.Mathlib.Omega.{arith}
 use lib.ListN.{length}
 use Rattle.machine.specs.declared.Queue.{Queue}
@@ -11,12 +11,12 @@ use Rattle.machine.specs.declared.Refusal.{Refusal}
 use Rattle.machine.specs.declared.StepAnswer
 use Rattle.machine.specs.declared.StepAnswer.{StepAnswer}
 use Rattle.machine.specs.Range.{select}
-use Rattle.machine.specs.Table.{capacity, scratchWords, inUse}
-use Rattle.machine.specs.Queue.{Packet, putSlot, packetsFrom, waiting, taken}
-use Rattle.machine.specs.Packets.{Change, kindOf, changesOf, changes}
+use Rattle.machine.specs.Table.{capacity, tableLength, scratchWords, inUse}
+use Rattle.machine.specs.Queue.{Packet, packetsFrom, waiting, taken}
+use Rattle.machine.specs.Packets.{kindOf, name, Direction, minus, changesOf, names, nameChanges, changes}
 use Rattle.machine.specs.Reached.{reached}
 use Rattle.machine.specs.Calls.{step, refused, idle, applied, store}
-use Rattle.machine.specs.Step.{moveCount, applyChanges, unreached, joinAll, lowerPointers, swept, cleared, outcome, stepWith, stepFrom, stepped}
+use Rattle.machine.specs.Step.{named, applyPacket, unreached, joinAll, lowerPointers, swept, cleared, outcome, stepWith, stepFrom, stepped}
 use Rattle.machine.specs.Questions.{firstNo, early}
 use Rattle.machine.specs.Answers.{refusalNumber, stepReply}
 use Rattle.machine.specs.Promise.{Untouched}
@@ -28,110 +28,102 @@ use Rattle.machine.proofs.Select.{select-indices}
 use Rattle.machine.proofs.Sweep.{sweeps}
 use Rattle.machine.proofs.Answers.{refusal-some}
 use Rattle.machine.proofs.Questions.{asked-lent}
-use Rattle.machine.proofs.Kept.{Framed, framed-changes}
+use Rattle.machine.proofs.Kept.{Framed, framed-trans, framed-changes}
+use Rattle.machine.proofs.Names.{naming-keeps}
 use Rattle.machine.specs.ShortWay.{watchedOf, watched, staysRoot}
+use Rattle.counts.specs.Changes.{applyFitting}
+use Rattle.counts.proofs.Changes.{apply-fits, shape-move, shape-fitting, framed-fitting}
 use Rattle.marks.specs.Marks.{Marks}
 use Rattle.collector.specs.declared.Stepped.{Stepped}
-use Rattle.collector.specs.Changes.{tooLarge, moveFitting, applyFitting}
 use Rattle.collector.specs.SweepPass.{isDead, Sweeps}
-use Rattle.collector.specs.Steps.{oldest, Premises, collected, freedNumber, Collects, Applies, Steps}
-use Rattle.collector.proofs.Changes.{apply-fits, shape-fitting}
+use Rattle.collector.specs.Steps.{oldest, Premises, applyPacketFitting, collected, freedNumber, Collects, Applies, Steps}
 use Rattle.collector.proofs.SweepPass.{select-same}
 
 -- mark and sweep
-pub collects : (t : List ℕ) (ps : List Packet) (s s₁ t′ s′ : List ℕ) (c n : ℕ)
-    → c ≡ capacity t → Marks t ps s s₁ → Sweeps t s₁ t′ n → s′ ≡ cleared (scratchWords c) s₁ → Collects t ps s t′ s′ n
-collects t ps s s₁ t′ s′ c n e m w f = record {
+pub collects : (t s s₁ t′ s′ : List ℕ) (c n : ℕ) → c ≡ capacity t → Marks t s s₁ → Sweeps t s₁ t′ n → s′ ≡ cleared (scratchWords c) s₁ → Collects t s t′ s′ n
+collects t s s₁ t′ s′ c n e m w f = record {
   table = w .table ∙ ap (swept t) dead;
   number = w .number ∙ ap length dead;
   scratch = f ∙ ap (λ (k : ℕ). cleared (scratchWords k) s₁) e ∙ cleared-same (scratchWords (capacity t)) s s₁ (m .past);
 }
   where
-    dead : select (capacity t) (isDead t s₁) ≡ unreached t ps
+    dead : select (capacity t) (isDead t s₁) ≡ unreached t
     dead =
         unfold unreached in
-        select-same (capacity t) (isDead t s₁) (λ i. inUse t i && not (reached t ps i))
-        (λ i l. unfold isDead in (ap (λ (b : Bool). not b && inUse t i) (m .marks i l) ∙ and-comm (not (reached t ps i)) (inUse t i)))
+        select-same (capacity t) (isDead t s₁) (λ i. inUse t i && not (reached t i))
+        (λ i l. unfold isDead in (ap (λ (b : Bool). not b && inUse t i) (m .marks i l) ∙ and-comm (not (reached t i)) (inUse t i)))
 
--- changes that fit are some of the changes, so what stands under changes stands
-fitting-some : (t : List ℕ) (hs : List Change) → (gs : List Change) × (applyFitting t hs ≡ applyChanges t gs)
-unfolding applyFitting applyChanges moveFitting
-fitting-some t [] = ([], refl)
-fitting-some t (h ∷ hs) =
-    (go (tooLarge (h .direction) _ (h .amount)) (fitting-some t hs) (fitting-some (moveCount t (h .counter) (h .word) (h .direction) (h .amount)) hs))
-  where
-    go : (b : Bool) → (gs : List Change) × (applyFitting t hs ≡ applyChanges t gs)
-        → (gs : List Change) × (applyFitting (moveCount t (h .counter) (h .word) (h .direction) (h .amount)) hs
-        ≡ applyChanges (moveCount t (h .counter) (h .word) (h .direction) (h .amount)) gs)
-        → (gs : List Change) × (applyFitting (cond b t (moveCount t (h .counter) (h .word) (h .direction) (h .amount))) hs ≡ applyChanges t gs)
-    go true g f = g
-    go false g f = (h ∷ f .0, f .1)
+-- what stands when a packet is applied, on any table
+shape-named : (d : Direction) (t : List ℕ) (p : Packet) → TableShape t → TableShape (named d t p)
+unfolding named
+shape-named d t p h = naming-keeps TableShape d (λ u w g. shape-move u name w d 1 g) t (names p) h
 
-framed-fitting : (t : List ℕ) (hs : List Change) → Framed t (applyFitting t hs)
-framed-fitting t hs = let g = fitting-some t hs in rw (g .1) (framed-changes t (g .0) .0)
+shape-applied : (t : List ℕ) (p : Packet) → TableShape t → TableShape (applyPacketFitting t p)
+shape-applied t p h = shape-named minus (applyFitting t (changes p)) p (shape-fitting t (changes p) h)
+
+framed-applied : (t : List ℕ) (p : Packet) → Framed t (applyPacketFitting t p)
+unfolding named
+framed-applied t p =
+    let u = applyFitting t (changes p) in
+    framed-trans t u (applyPacketFitting t p) (framed-fitting t (changes p)) (framed-changes u (nameChanges minus (names p)) .0)
 
 -- the table that the code leaves
 module _ (t : List ℕ) (q : Queue) (s : List ℕ) (h : Lent t q s) (some : 0 < q .count) where
   abbrev p : Packet
   p = oldest q
 
-  abbrev ps : List Packet
-  ps = waiting (taken q)
-
   abbrev t₁ : List ℕ
-  t₁ = applyFitting t (changes p)
+  t₁ = applyPacketFitting t p
 
   abbrev stays : Bool
-  stays = staysRoot t₁ ps (watched p)
+  stays = staysRoot t₁ (watched p)
 
-  framed-collected : Framed t (collected t₁ ps p)
+  framed-collected : Framed t (collected t₁ p)
   unfolding collected
   framed-collected = go stays
     where
       f : Framed t t₁
-      f = framed-fitting t (changes p)
+      f = framed-applied t p
 
       k : TableShape t₁
-      k = shape-fitting t (changes p) (h .shape .table)
+      k = shape-applied t p (h .shape .table)
 
-      go : (b : Bool) → Framed t (cond b t₁ (swept t₁ (unreached t₁ ps)))
+      go : (b : Bool) → Framed t (cond b t₁ (swept t₁ (unreached t₁)))
       go true = f
       go false =
-          let w = sweeps t₁ (unreached t₁ ps) (k .room) (unfold unreached in select-indices (capacity t₁) (λ i. inUse t₁ i && not (reached t₁ ps i))) (k .last) in
-          record {
-            sameLength = w .sameLength ∙ f .sameLength;
-            sameCapacity = w .sameCapacity ∙ f .sameCapacity;
-            pastCells = (rw (f .sameCapacity) at (w .pastCells)) ∙ f .pastCells;
-          }
+          let w = sweeps t₁ (unreached t₁) (k .room) (unfold unreached in select-indices (capacity t₁) (λ i. inUse t₁ i && not (reached t₁ i))) (k .last) in
+          framed-trans t t₁ (swept t₁ (unreached t₁)) f (record { sameLength = w .sameLength; sameCapacity = w .sameCapacity; pastCells = w .pastCells })
 
-  oldest-first : waiting q ≡ p ∷ ps
+  oldest-first : waiting q ≡ p ∷ waiting (taken q)
   oldest-first = waiting-taken q (pred (q .count)) (h .shape .queue .place) (h .shape .queue .count) (omega arith)
 
-  -- on a store that meets the premises the short way gives what the long way gives
-  nothing : Premises t q → stays ≡ true → unreached t₁ ps ≡ []
-  nothing m e =
-      let fit = apply-fits t (changes p) (m .fit) in
-      rw fit (m .still (rw fit at e))
+  -- on a store that meets the premises the packet is applied whole, and the short way gives what the long way gives
+  whole : Premises t q → t₁ ≡ applyPacket t p
+  unfolding applyPacket
+  whole m = ap (λ (u : List ℕ). named minus u p) (apply-fits t (changes p) (m .fit))
 
-  collected-is : Premises t q → collected t₁ ps p ≡ swept t₁ (unreached t₁ ps)
+  nothing : Premises t q → stays ≡ true → unreached t₁ ≡ []
+  nothing m e = rw (whole m) (m .still (rw (whole m) at e))
+
+  collected-is : Premises t q → collected t₁ p ≡ swept t₁ (unreached t₁)
   unfolding collected
   collected-is m =
       ⊎-elim (λ (e : stays ≡ true). rw (e, nothing m e) (unfold swept joinAll lowerPointers in refl))
       (λ (e : stays ≡ false). rw e) (tested stays)
 
-  number-is : Premises t q → freedNumber t₁ ps p ≡ length (unreached t₁ ps)
+  number-is : Premises t q → freedNumber t₁ p ≡ length (unreached t₁)
   unfolding freedNumber
   number-is m =
       ⊎-elim (λ (e : stays ≡ true). rw (e, nothing m e)) (λ (e : stays ≡ false). rw e) (tested stays)
 
-  stepped-is : stepped (store t q s) ≡ stepWith (store t q s) p ps
+  stepped-is : stepped (store t q s) ≡ stepWith (store t q s) p
   unfolding stepped
   stepped-is = rw oldest-first (unfold stepFrom in refl)
 
   exact : Premises t q
-      → outcome (applied (p .kind) (freedNumber t₁ ps p)) (store (collected t₁ ps p) (taken q) (cleared (scratchWords (capacity t)) s)) ≡ stepped (store t q s)
+      → outcome (applied (p .kind) (freedNumber t₁ p)) (store (collected t₁ p) (taken q) (cleared (scratchWords (capacity t)) s)) ≡ stepped (store t q s)
   exact m =
-      rw (collected-is m, number-is m, ← framed-fitting t (changes p) .sameCapacity, apply-fits t (changes p) (m .fit), stepped-is)
+      rw (collected-is m, number-is m, ← framed-applied t p .sameCapacity, whole m, stepped-is)
       (unfold stepWith in refl)
 
 -- what questions 1 and 2 say
@@ -174,7 +166,7 @@ module _ (t : List ℕ) (q : Queue) (s : List ℕ) where
       same : store t (r .queue) s ≡ store t q s
       same = ap (λ (x : Queue). store t x s) f
 
-  pub applies : asks ≡ 0 → 0 < q .count → (r : Stepped) (t′ s′ : List ℕ) (n : ℕ) → Applies t (waiting (taken q)) (oldest q) s t′ s′ n
+  pub applies : asks ≡ 0 → 0 < q .count → (r : Stepped) (t′ s′ : List ℕ) (n : ℕ) → Applies t (oldest q) s t′ s′ n
       → r .answer ≡ StepAnswer.Applied (oldest q .kind) n → r .queue ≡ taken q → Steps t q s r t′ s′
   applies a some r t′ s′ n p e f = record {
     asked = λ m g. absurd (omega arith);
@@ -195,47 +187,45 @@ module _ (t : List ℕ) (q : Queue) (s : List ℕ) where
       h : Lent t q s
       h = asked-lent t q s a
 
-      k : Framed t (collected (applyFitting t (changes (oldest q))) (waiting (taken q)) (oldest q))
+      k : Framed t (collected (applyPacketFitting t (oldest q)) (oldest q))
       k = framed-collected t q s h some
 
-pub taken-lent : (t : List ℕ) (q : Queue) (s : List ℕ) → Lent t q s → Lent t (taken q) s
-unfolding taken putSlot
-taken-lent t q s h =
-    let o = h .shape .queue in
-    record { shape = record { table = h .shape .table; queue = record { place = omega arith; count = omega arith } }; scratch = h .scratch }
-
--- the packet p applied, with the queue rest behind it
-module _ (t : List ℕ) (rest : Queue) (s : List ℕ) (h : Lent t rest s) (p : Packet) (t₁ : List ℕ)
+-- the packet p applied: its changes, then its names
+module _ (t s : List ℕ) (k : TableShape t) (h : scratchWords (capacity t) ≤ length s) (p : Packet) (t₁ : List ℕ)
     (f : t₁ ≡ applyFitting t (changesOf (kindOf (p .kind)) (p .a) (p .b))) where
-  packet-applied : t₁ ≡ applyFitting t (changes p)
-  unfolding changes
-  packet-applied = f
+  pub changed-room : tableLength (capacity t₁) ≤ length t₁
+  changed-room = rw f (shape-fitting t (changesOf (kindOf (p .kind)) (p .a) (p .b)) k .room)
 
-  capacity-is : capacity t₁ ≡ capacity t
-  capacity-is = ap capacity packet-applied ∙ framed-fitting t (changes p) .sameCapacity
+  module _ (t₂ : List ℕ) (g : t₂ ≡ named minus t₁ p) where
+    packet-applied : t₂ ≡ applyPacketFitting t p
+    unfolding changes
+    packet-applied = g ∙ ap (λ (u : List ℕ). named minus u p) f
 
-  pub still-lent : Lent t₁ rest s
-  still-lent = record {
-    shape = record { table = rw packet-applied (shape-fitting t (changes p) (h .shape .table)); queue = h .shape .queue };
-    scratch = rw capacity-is (h .scratch);
-  }
+    capacity-is : capacity t₂ ≡ capacity t
+    capacity-is = ap capacity packet-applied ∙ framed-applied t p .sameCapacity
 
-  -- what was asked of the watched word
-  module _ (w : ℕ) (v : w ≡ watchedOf (kindOf (p .kind)) (p .a) (p .b) (p .c)) (o : Bool) (u : o ≡ staysRoot t₁ (waiting rest) w) where
-    stays-is : (x : Bool) → o ≡ x → staysRoot (applyFitting t (changes p)) (waiting rest) (watched p) ≡ x
-    unfolding watched
-    stays-is x y = rw (packet-applied, v) at (sym u ∙ y)
+    pub still-shaped : TableShape t₂
+    still-shaped = rw packet-applied (shape-applied t p k)
 
-    pub short : o ≡ true → (c : ℕ) → c ≡ capacity t → (s′ : List ℕ) → s′ ≡ cleared (scratchWords c) s → Applies t (waiting rest) p s t₁ s′ 0
-    short x c i s′ y = record {
-      table = packet-applied ∙ (unfold collected in rw (stays-is true x));
-      number = unfold freedNumber in rw (stays-is true x);
-      scratch = y ∙ ap (λ (n : ℕ). cleared (scratchWords n) s) i;
-    }
+    pub still-enough : scratchWords (capacity t₂) ≤ length s
+    still-enough = rw capacity-is h
 
-    pub long : o ≡ false → (t′ s′ : List ℕ) (n : ℕ) → Collects t₁ (waiting rest) s t′ s′ n → Applies t (waiting rest) p s t′ s′ n
-    long x t′ s′ n y = record {
-      table = y .table ∙ rw packet-applied (unfold collected in rw (stays-is false x));
-      number = y .number ∙ rw packet-applied (unfold freedNumber in rw (stays-is false x));
-      scratch = y .scratch ∙ ap (λ (m : ℕ). cleared (scratchWords m) s) capacity-is;
-    }
+    -- what was asked of the watched word
+    module _ (w : ℕ) (v : w ≡ watchedOf (kindOf (p .kind)) (p .a) (p .b) (p .c)) (o : Bool) (u : o ≡ staysRoot t₂ w) where
+      stays-is : (x : Bool) → o ≡ x → staysRoot (applyPacketFitting t p) (watched p) ≡ x
+      unfolding watched
+      stays-is x y = rw (packet-applied, v) at (sym u ∙ y)
+
+      pub short : o ≡ true → (c : ℕ) → c ≡ capacity t → (s′ : List ℕ) → s′ ≡ cleared (scratchWords c) s → Applies t p s t₂ s′ 0
+      short x c i s′ y = record {
+        table = packet-applied ∙ (unfold collected in rw (stays-is true x));
+        number = unfold freedNumber in rw (stays-is true x);
+        scratch = y ∙ ap (λ (n : ℕ). cleared (scratchWords n) s) i;
+      }
+
+      pub long : o ≡ false → (t′ s′ : List ℕ) (n : ℕ) → Collects t₂ s t′ s′ n → Applies t p s t′ s′ n
+      long x t′ s′ n y = record {
+        table = y .table ∙ rw packet-applied (unfold collected in rw (stays-is false x));
+        number = y .number ∙ rw packet-applied (unfold freedNumber in rw (stays-is false x));
+        scratch = y .scratch ∙ ap (λ (m : ℕ). cleared (scratchWords m) s) capacity-is;
+      }

@@ -13,7 +13,7 @@ use Rattle.machine.specs.Packets.{cell, minus}
 use Rattle.machine.specs.Step.{join}
 use Rattle.machine.specs.Facts.{TableShape}
 use Rattle.marks.specs.Marks.{isMarked}
-use Rattle.collector.specs.Changes.{moveFitting, Moves}
+use Rattle.counts.specs.Changes.{moveFitting, Moves}
 use Rattle.collector.specs.SweepPass.{isDead, freed, endLeft, leftBefore, passed, Passes, Sweeps}
 use Rattle.collector.proofs.SweepPass.{Good, passedTo, still-dead, passed-more, passed-good, passed-all, length-select}
 

@@ -21,7 +21,7 @@ use Rattle.machine.proofs.Select.{select-indices}
 use Rattle.machine.proofs.Commute.{join-move}
 use Rattle.marks.specs.Marks.{isMarked}
 use Rattle.collector.specs.SweepPass.{isDead, freed, endLeft, leftBefore, passed}
-use Rattle.collector.proofs.Changes.{shape-move}
+use Rattle.counts.proofs.Changes.{shape-move}
 
 -- a table that passes question 1, of c cells
 pub record Good (c : ℕ) (t : List ℕ) : Type 0 where

@@ -1,4 +1,3 @@
 -- What the collector's functions compute, and the step's contract.
-pub mod Changes
 pub mod SweepPass
 pub mod Steps

@@ -6,45 +6,48 @@ use Prim.Native.Nat.{ℕ, suc, _<_}
 use lib.ListN.{length}
 use Rattle.machine.specs.declared.Queue.{Queue}
 use Rattle.machine.specs.Table.{capacity, scratchWords}
-use Rattle.machine.specs.Queue.{Packet, slot, waiting, taken}
-use Rattle.machine.specs.Packets.{changes}
+use Rattle.machine.specs.Queue.{Packet, slot, taken}
+use Rattle.machine.specs.Packets.{minus, changes}
 use Rattle.machine.specs.Calls.{step, refused, idle, applied, store}
-use Rattle.machine.specs.Step.{applyChanges, unreached, swept, cleared, outcome, stepped}
+use Rattle.machine.specs.Step.{named, applyPacket, unreached, swept, cleared, outcome, stepped}
 use Rattle.machine.specs.Questions.{firstNo, early}
 use Rattle.machine.specs.ShortWay.{watched, staysRoot}
 use Rattle.machine.specs.Answers.{stepReply}
 use Rattle.machine.specs.Promise.{Untouched}
 use Rattle.collector.specs.declared.Stepped.{Stepped}
-use Rattle.collector.specs.Changes.{applyFitting, ChangesFit}
+use Rattle.counts.specs.Changes.{applyFitting, ChangesFit}
 
 -- the oldest packet
 abbrev pub oldest : Queue → Packet
 oldest q = slot q (q .place)
 
--- What a sound store gives a step: each change of the oldest packet fits its counter, and after them every cell in use is reached where the packet's
+-- What a sound store gives a step: each change of the oldest packet fits its counter, and with the packet applied every cell in use is reached where its
 -- watched word is no cell or still a root.
 pub record Premises (t : List ℕ) (q : Queue) : Type 0 where
   pub fit : ChangesFit t (changes (oldest q))
-  pub still : (staysRoot (applyChanges t (changes (oldest q))) (waiting (taken q)) (watched (oldest q)) ≡ true
-      → unreached (applyChanges t (changes (oldest q))) (waiting (taken q)) ≡ [])
+  pub still : (staysRoot (applyPacket t (oldest q)) (watched (oldest q)) ≡ true → unreached (applyPacket t (oldest q)) ≡ [])
 
--- the table t with the packet p's changes made and ps waiting: nothing is freed where p's watched word is no cell or still a root
-unfoldable pub collected : List ℕ → List Packet → Packet → List ℕ
-collected t ps p = cond (staysRoot t ps (watched p)) t (swept t (unreached t ps))
+-- the packet applied in counters of 16 bits: its changes that fit are made, and it names its cells no longer
+abbrev pub applyPacketFitting : List ℕ → Packet → List ℕ
+applyPacketFitting t p = named minus (applyFitting t (changes p)) p
 
-unfoldable pub freedNumber : List ℕ → List Packet → Packet → ℕ
-freedNumber t ps p = cond (staysRoot t ps (watched p)) 0 (length (unreached t ps))
+-- the table t with the packet p applied: nothing is freed where p's watched word is no cell or still a root
+unfoldable pub collected : List ℕ → Packet → List ℕ
+collected t p = cond (staysRoot t (watched p)) t (swept t (unreached t))
+
+unfoldable pub freedNumber : List ℕ → Packet → ℕ
+freedNumber t p = cond (staysRoot t (watched p)) 0 (length (unreached t))
 
 -- what mark and sweep give on any store past questions 1 and 2
-pub record Collects (t : List ℕ) (ps : List Packet) (s t′ s′ : List ℕ) (n : ℕ) : Type 0 where
-  pub table : t′ ≡ swept t (unreached t ps)
-  pub number : n ≡ length (unreached t ps)
+pub record Collects (t s t′ s′ : List ℕ) (n : ℕ) : Type 0 where
+  pub table : t′ ≡ swept t (unreached t)
+  pub number : n ≡ length (unreached t)
   pub scratch : s′ ≡ cleared (scratchWords (capacity t)) s
 
--- what the code computes for the packet p with ps waiting behind it, on any store past questions 1 and 2
-pub record Applies (t : List ℕ) (ps : List Packet) (p : Packet) (s t′ s′ : List ℕ) (n : ℕ) : Type 0 where
-  pub table : t′ ≡ collected (applyFitting t (changes p)) ps p
-  pub number : n ≡ freedNumber (applyFitting t (changes p)) ps p
+-- what the code computes for the packet p, on any store past questions 1 and 2
+pub record Applies (t : List ℕ) (p : Packet) (s t′ s′ : List ℕ) (n : ℕ) : Type 0 where
+  pub table : t′ ≡ collected (applyPacketFitting t p) p
+  pub number : n ≡ freedNumber (applyPacketFitting t p) p
   pub scratch : s′ ≡ cleared (scratchWords (capacity t)) s
 
 pub record Steps (t : List ℕ) (q : Queue) (s : List ℕ) (r : Stepped) (t′ s′ : List ℕ) : Type 0 where

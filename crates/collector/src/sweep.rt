@@ -1,5 +1,5 @@
 // The sweep: one ascending pass over the cells that frees those in use without a mark.
-use crate::counts::cell_down;
+use counts::cell_down;
 ghost use mathlib.Core.Path.{_≡_};
 ghost use Prim.Native.Nat.{_<_, _≤_};
 ghost use lib.ListN.{length};

@@ -10,13 +10,13 @@ use lib.Seq.{getD-append-add}
 use borrow.Author.Tests.{le-leb, lt-ltb, eq-eqb}
 use Rattle.machine.specs.Range.{every, everyOf, occurrences, lastOf, total, matching}
 use Rattle.machine.specs.Words.{isCell, isNil, isAtom, ceiling}
-use Rattle.machine.specs.Table.{stride, left, right, rootCount, cellCount, state, capacity, firstFree, lastFree, position, wordAt, inUse, isFree}
+use Rattle.machine.specs.Table.{stride, left, right, rootCount, cellCount, state, nameCount, capacity, firstFree, lastFree, position, wordAt, inUse, isFree}
 use Rattle.machine.specs.Queue.{emptyQueue, slot, waiting, packetsFrom}
-use Rattle.machine.specs.Packets.{isNamed}
-use Rattle.machine.specs.Reached.{isRoot, begun, reached}
+use Rattle.machine.specs.Packets.{timesNamed}
+use Rattle.machine.specs.Reached.{isProtected, isRoot, begun, reached}
 use Rattle.machine.specs.Counts.{pointersFrom, pointers}
 use Rattle.machine.specs.Questions.{inRange, pointersWithin}
-use Rattle.machine.specs.Audit.{fieldSound, cellSound, cellsSound, walk, freeChain, laidOut, metOnce, chainSound, isZeroPacket, otherSlotsZero, packetsLegal, replays, packetsSound, before, undoes, pointersSound, allReached, Sound}
+use Rattle.machine.specs.Audit.{fieldSound, cellSound, cellsSound, walk, freeChain, laidOut, metOnce, chainSound, isZeroPacket, otherSlotsZero, packetsLegal, replays, namesCounted, packetsSound, before, undoes, pointersSound, allReached, Sound}
 use Rattle.machine.specs.WrongAnswers.{repeated, crowded}
 use Rattle.machine.proofs.Range.{or-left, or-right, and-both, every-all, matching-same, matching-other, total-same, total-zero}
 use Rattle.machine.proofs.Questions.{shape-test}
@@ -49,22 +49,23 @@ each P n p q zero l = p
 each P n p q (suc i) l = q i (omega arith)
 
 abbrev ones : List ℕ
-ones = 1 ∷ 1 ∷ 1 ∷ 0 ∷ 1 ∷ []
+ones = 1 ∷ 1 ∷ 1 ∷ 0 ∷ 1 ∷ 0 ∷ []
 
 abbrev front : ℕ → ℕ → ℕ → List ℕ
-front n word holds = suc n ∷ 0 ∷ 0 ∷ 1 ∷ word ∷ holds ∷ suc (2 * n) ∷ 1 ∷ []
+front n word holds = suc n ∷ 0 ∷ 0 ∷ 1 ∷ word ∷ holds ∷ suc (2 * n) ∷ 1 ∷ 0 ∷ []
 
 -- what stands in front, and in the first cell
 pub record First (n word holds : ℕ) : Type 0 where
   pub cells : capacity (crowded n word holds) ≡ suc n
   pub begins : firstFree (crowded n word holds) ≡ 0
   pub ends : lastFree (crowded n word holds) ≡ 0
-  pub size : length (crowded n word holds) ≡ 8 + length (repeated n ones)
+  pub size : length (crowded n word holds) ≡ 9 + length (repeated n ones)
   pub points : wordAt (crowded n word holds) 0 left ≡ 1
   pub holds-word : wordAt (crowded n word holds) 0 right ≡ word
   pub held : wordAt (crowded n word holds) 0 rootCount ≡ holds
   pub counted : wordAt (crowded n word holds) 0 cellCount ≡ suc (2 * n)
   pub used : wordAt (crowded n word holds) 0 state ≡ 1
+  pub unnamed : wordAt (crowded n word holds) 0 nameCount ≡ 0
 
 pub first-is : (n word holds : ℕ) → First n word holds
 unfolding capacity firstFree lastFree wordAt position crowded
@@ -78,6 +79,7 @@ first-is n word holds = record {
   held = refl;
   counted = refl;
   used = refl;
+  unnamed = refl;
 }
 
 other-word : (n word holds i k : ℕ) → i < n → k < stride → wordAt (crowded n word holds) (suc i) k ≡ getD ones k 0
@@ -214,21 +216,26 @@ module _ (n word holds : ℕ) (small : word ≤ 1) (some : 1 ≤ holds) (few : h
         (all-cells (λ i. eqb 0 (cond (isFree t i) 1 0)) (λ i l. rw (not-free i l))) refl)
         (all-cells (λ i. inUse t i || laidOut t i) (λ i l. or-left (laidOut t i) (in-use i l))))
 
+    unnamed-at : (i : ℕ) → i < suc n → wordAt t i nameCount ≡ 0
+    unnamed-at i l = each (λ j. wordAt t j nameCount ≡ 0) n (f .unnamed) (λ j m. other j nameCount m (omega arith)) i l
+
     packets : packetsSound t emptyQueue ≡ true
-    unfolding packetsSound packetsLegal replays otherSlotsZero isZeroPacket waiting packetsFrom slot every
-    packets = all-cells (λ i. true) (λ i l. refl)
+    unfolding packetsSound packetsLegal replays namesCounted timesNamed otherSlotsZero isZeroPacket waiting packetsFrom slot every
+    packets =
+        and-both (all-cells (λ i. true) (λ i l. refl))
+        (all-cells (λ i. eqb (wordAt t i nameCount) 0) (λ i l. eq-eqb (wordAt t i nameCount) 0 (unnamed-at i l)))
 
     pointed : pointersSound t [] ≡ true
     unfolding pointersSound undoes before
     pointed = and-both pointers-few (all-cells (λ i. eqb (wordAt t i cellCount) (pointers t (suc i))) (λ i l. eq-eqb (wordAt t i cellCount) (pointers t (suc i)) (count-at i l)))
 
-    root-at : (i : ℕ) → i < suc n → isRoot t [] i ≡ true
+    root-at : (i : ℕ) → i < suc n → isRoot t i ≡ true
     unfolding isRoot
-    root-at i l = or-left (isNamed [] (suc i)) (lt-ltb 0 (wordAt t i rootCount) (held-at i l .0))
+    root-at i l = or-left (isProtected t i) (lt-ltb 0 (wordAt t i rootCount) (held-at i l .0))
 
-    live : allReached t [] ≡ true
+    live : allReached t ≡ true
     unfolding allReached
-    live = all-cells (λ i. isFree t i || reached t [] i) (λ i l. or-right (isFree t i) (reached-is t [] i .1 (begun (rw (f .cells) l) (root-at i l))))
+    live = all-cells (λ i. isFree t i || reached t i) (λ i l. or-right (isFree t i) (reached-is t i .1 (begun (rw (f .cells) l) (root-at i l))))
 
     pub sound-table : Sound t emptyQueue
     unfolding waiting packetsFrom

@@ -10,10 +10,10 @@ use Rattle.notation.specs.Trees.{Tree, nil, atom, pair}
 use Rattle.notation.specs.Parse.{parse, meaning}
 use Rattle.machine.specs.Table.{stride, left, right, newCell, scratchWords, capacity, firstFree, lastFree, tableLength, putWord, putEnds, putCell}
 use Rattle.machine.specs.Queue.{Packet, waiting}
-use Rattle.machine.specs.Packets.{contains, Change, changes}
+use Rattle.machine.specs.Packets.{Direction, plus, contains, Change, changes, names, nameChanges}
 use Rattle.machine.specs.Calls.{Call, fresh, row, step, audit, read, write, RowCall, car, cdr, cons, setLeft, setRight, up, down}
-use Rattle.machine.specs.Calls.{Reply, refused, Store, store, withoutFirst, written}
-use Rattle.machine.specs.Step.{moveCount, applyChanges, unreached, swept, cleared, Outcome, outcome, stepWith, stepFrom, stepped}
+use Rattle.machine.specs.Calls.{Reply, refused, Store, store, packetsOf, withoutFirst, written}
+use Rattle.machine.specs.Step.{moveCount, applyChanges, named, namedAll, applyPacket, unreached, swept, cleared, Outcome, outcome, stepWith, stepFrom, stepped}
 use Rattle.machine.specs.Questions.{firstNo, earlyRow, early, late, questions, scratchEnough, xIsCell}
 use Rattle.machine.specs.Audit.{rules, auditReply, audited}
 use Rattle.machine.specs.Texts.{buildBy}
@@ -93,10 +93,10 @@ pub record Framed (t t′ : List ℕ) : Type 0 where
   pub sameCapacity : capacity t′ ≡ capacity t
   pub pastCells : drop (tableLength (capacity t)) t′ ≡ drop (tableLength (capacity t)) t
 
-framed-refl : (t : List ℕ) → Framed t t
+pub framed-refl : (t : List ℕ) → Framed t t
 framed-refl t = record { sameLength = refl; sameCapacity = refl; pastCells = refl }
 
-framed-trans : (t u v : List ℕ) → Framed t u → Framed u v → Framed t v
+pub framed-trans : (t u v : List ℕ) → Framed t u → Framed u v → Framed t v
 framed-trans t u v f g = record {
   sameLength = g .sameLength ∙ f .sameLength;
   sameCapacity = g .sameCapacity ∙ f .sameCapacity;
@@ -122,7 +122,7 @@ x-index : (t : List ℕ) (x : ℕ) → xIsCell t x ≡ true → pred x < capacit
 unfolding xIsCell
 x-index t x h = cell-index (capacity t) x h
 
-framed-written : (s : Store) (r : RowCall) → AllYes (early s (row r)) → Framed (s .table) (written (s .table) r)
+pub framed-written : (s : Store) (r : RowCall) → AllYes (early s (row r)) → Framed (s .table) (written (s .table) r)
 unfolding early earlyRow written withoutFirst
 framed-written s (car x) h = framed-refl (s .table)
 framed-written s (cdr x) h = framed-refl (s .table)
@@ -148,13 +148,35 @@ framed-changes t (h ∷ hs) =
       rest .1 ∙ lastFree-move t (h .counter) (h .word) (h .direction) (h .amount),
     )
 
-framed-swept : (t : List ℕ) (ps : List Packet) → tableLength (capacity t) ≤ length t → lastFree t ≤ capacity t → Framed t (swept t (unreached t ps))
+-- packets queued, and the oldest applied
+framed-naming : (d : Direction) (t : List ℕ) (p : Packet) → Framed t (named d t p) × (lastFree (named d t p) ≡ lastFree t)
+unfolding named
+framed-naming d t p = framed-changes t (nameChanges d (names p))
+
+framed-named : (t : List ℕ) (ps : List Packet) → Framed t (namedAll t ps)
+framed-named t [] = framed-refl t
+framed-named t (p ∷ ps) = framed-trans t (named plus t p) (namedAll (named plus t p) ps) (framed-naming plus t p .0) (framed-named (named plus t p) ps)
+
+framed-row : (s : Store) (r : RowCall) → AllYes (early s (row r)) → Framed (s .table) (namedAll (written (s .table) r) (packetsOf (s .table) r))
+framed-row s r h =
+    let w = written (s .table) r in
+    let ps = packetsOf (s .table) r in
+    framed-trans (s .table) w (namedAll w ps) (framed-written s r h) (framed-named w ps)
+
+framed-applied : (t : List ℕ) (p : Packet) → Framed t (applyPacket t p) × (lastFree (applyPacket t p) ≡ lastFree t)
+unfolding applyPacket
+framed-applied t p =
+    let u = applyChanges t (changes p) in
+    let first = framed-changes t (changes p) in
+    (framed-trans t u _ (first .0) (framed-naming _ u p .0), framed-naming _ u p .1 ∙ first .1)
+
+framed-swept : (t : List ℕ) → tableLength (capacity t) ≤ length t → lastFree t ≤ capacity t → Framed t (swept t (unreached t))
 unfolding unreached
-framed-swept t ps f b =
-    let w = sweeps t (unreached t ps) f (select-indices (capacity t) _) b in
+framed-swept t f b =
+    let w = sweeps t (unreached t) f (select-indices (capacity t) _) b in
     record { sameLength = w .sameLength; sameCapacity = w .sameCapacity; pastCells = w .pastCells }
 
-untouched : (s : Store) (t : List ℕ) (q : _) (u : List ℕ) → Framed (s .table) t → length u ≡ length (s .scratch) → drop (scratchWords (capacity (s .table))) u ≡ drop (scratchWords (capacity (s .table))) (s .scratch) → Untouched s (store t q u)
+pub untouched : (s : Store) (t : List ℕ) (q : _) (u : List ℕ) → Framed (s .table) t → length u ≡ length (s .scratch) → drop (scratchWords (capacity (s .table))) u ≡ drop (scratchWords (capacity (s .table))) (s .scratch) → Untouched s (store t q u)
 untouched s t q u f e d = record {
   sameLength = f .sameLength;
   sameCapacity = f .sameCapacity;
@@ -175,11 +197,11 @@ unfolding stepFrom stepWith early
 untouched-step s [] h = unmoved s
 untouched-step s (p ∷ ps) h =
     let t = s .table in
-    let u = applyChanges t (changes p) in
+    let u = applyPacket t p in
     let shape = shape-is t (s .queue) (h .0) in
-    let c = framed-changes t (changes p) in
-    let w = framed-swept u ps (rw (c .0 .sameCapacity, c .0 .sameLength) (shape .table .room)) (rw (c .1, c .0 .sameCapacity) (shape .table .last)) in
-    untouched s (swept u (unreached u ps)) _ (cleared (scratchWords (capacity u)) (s .scratch)) (framed-trans t u (swept u (unreached u ps)) (c .0) w)
+    let c = framed-applied t p in
+    let w = framed-swept u (rw (c .0 .sameCapacity, c .0 .sameLength) (shape .table .room)) (rw (c .1, c .0 .sameCapacity) (shape .table .last)) in
+    untouched s (swept u (unreached u)) _ (cleared (scratchWords (capacity u)) (s .scratch)) (framed-trans t u (swept u (unreached u)) (c .0) w)
     (rw (c .0 .sameCapacity) (length-cleared (scratchWords (capacity t)) (s .scratch) (scratch-room s (h .1 .0))))
     (rw (c .0 .sameCapacity) (past-cleared (scratchWords (capacity t)) (s .scratch)))
 
@@ -207,7 +229,7 @@ unfolding consed
 untouched-consed s x y = go (firstNo (questions s (row (cons x y)))) refl
   where
     go : (n : ℕ) → firstNo (questions s (row (cons x y))) ≡ n → Untouched s (refusedOr n s (acceptedRow s (cons x y)) .after)
-    go zero e = untouched s (written (s .table) (cons x y)) _ (s .scratch) (framed-written s (cons x y) (early-yes s (row (cons x y)) e)) refl refl
+    go zero e = untouched s _ _ (s .scratch) (framed-row s (cons x y) (early-yes s (row (cons x y)) e)) refl refl
     go (suc n) e = unmoved s
 
 -- what every cons keeps, building a tree by it keeps
@@ -227,7 +249,7 @@ untouched-built s t = built-keeps consed (Untouched s) (λ u x y h. untouched-tr
 pub bounded-accepted : (s : Store) (call : Call) → AllYes (early s call) → Bounded call s (accepted s call .after)
 unfolding accepted textRead stepped audited early
 bounded-accepted s (fresh c) h = tt
-bounded-accepted s (row r) h = untouched s (written (s .table) r) _ (s .scratch) (framed-written s r h) refl refl
+bounded-accepted s (row r) h = untouched s _ _ (s .scratch) (framed-row s r h) refl refl
 bounded-accepted s step h = untouched-step s (waiting (s .queue)) h
 bounded-accepted s audit h =
     untouched s (s .table) _ (cleared (scratchWords (capacity (s .table))) (s .scratch)) (framed-refl (s .table))

@@ -13,12 +13,14 @@ pub mod Moves
 pub mod Sweep
 pub mod Commute
 pub mod Select
+pub mod Names
 pub mod Fresh
 pub mod Answers
 pub mod Questions
 pub mod Kept
 pub mod NilReads
 pub mod AuditedSound
+pub mod RootsByCell
 pub mod Computes
 pub mod Cases
 pub mod Stages

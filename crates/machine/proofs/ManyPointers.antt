@@ -6,15 +6,16 @@ use mathlib.Core.List.{List, [], _∷_}
 use Prim.Native.Nat.{ℕ, suc, _+_, _*_, _≤_, _<_}
 use native.Mathlib.Omega.{arith}
 use lib.Dec.{leb, eqb}
+use lib.ListN.{set}
 use borrow.Author.Tests.{le-leb, lt-leb}
 use Rattle.machine.specs.Range.{everyOf, matching}
-use Rattle.machine.specs.Words.{isNil, isAtom, isLegal, mayBeStored, ceiling}
+use Rattle.machine.specs.Words.{isNil, isCell, isAtom, isLegal, mayBeStored, ceiling}
 use Rattle.machine.specs.Table.{left, right, rootCount, capacity, position, wordAt, putWord}
 use Rattle.machine.specs.Queue.{Packet, packet, emptyQueue, slot, putSlot, appended, waiting, packetsFrom}
-use Rattle.machine.specs.Packets.{replaces, kindOf, root, plus, minus, changesOf, changes, usesOf, uses, movedBy, waitingChange}
+use Rattle.machine.specs.Packets.{replaces, kindOf, root, plus, minus, changesOf, changes, namesOf, names, nameChanges, usesOf, uses, movedBy, waitingChange}
 use Rattle.machine.specs.Counts.{heldAtLeast, heldAtMost, pointers}
 use Rattle.machine.specs.Calls.{row, setLeft, setRight, value, Store, store, field, packetOf, readsNil, written, valueOf}
-use Rattle.machine.specs.Step.{outcome}
+use Rattle.machine.specs.Step.{moveCount, applyChanges, named, outcome}
 use Rattle.machine.specs.Questions.{firstNo, inRange, wordsLegal, xIsCell, wordsStorable, heldEnough, slotEmpty, heldWithin, pointersWithin, earlyRow, early, askFree, lateRow, late, questions}
 use Rattle.machine.specs.Audit.{Sound}
 use Rattle.machine.specs.Machine.{accepted}
@@ -157,11 +158,16 @@ module _ (n holds : ℕ) (some : 1 ≤ holds) (few : holds ≤ ceiling) (fits : 
           pointers-few n 0 holds (omega arith) some few refl fits,
         )
 
-    pub itself-gives : accepted lent (row (setLeft 1 1)) ≡ outcome (value 1) (store u (appended emptyQueue (replace 3 1)) s)
-    unfolding accepted valueOf readsNil field
-    itself-gives = rw (packet-left, written-left n holds, first-is n 0 holds .points)
+    -- and its packet names that cell three times
+    named-thrice : named plus u (replace 3 1) ≡ set u 8 3
+    unfolding named applyChanges nameChanges names namesOf kindOf moveCount capacity wordAt putWord position crowded
+    named-thrice = let cell : isCell (suc n) 1 ≡ true = one-is-cell n 0 holds (omega arith) some few in rw (cell, cell, cell)
 
-    only-itself : 2 ≤ holds → Only (gives lent (row (setLeft 1 1)) (value 1) (store u (appended emptyQueue (replace 3 1)) s))
+    pub itself-gives : accepted lent (row (setLeft 1 1)) ≡ outcome (value 1) (store (set u 8 3) (appended emptyQueue (replace 3 1)) s)
+    unfolding accepted valueOf readsNil field
+    itself-gives = rw (packet-left, written-left n holds, first-is n 0 holds .points, named-thrice)
+
+    only-itself : 2 ≤ holds → Only (gives lent (row (setLeft 1 1)) (value 1) (store (set u 8 3) (appended emptyQueue (replace 3 1)) s))
     only-itself h = only-decided lent (row (setLeft 1 1)) _ (inl crowded-sound) (machine-accepted lent (row (setLeft 1 1)) (itself-accepted h) ∙ itself-gives)
 
     -- all but questions 6 and 10 say "yes" of one that adds a pointer; where the pointers have no room for it, 10 says "no"

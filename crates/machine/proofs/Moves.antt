@@ -11,7 +11,7 @@ use borrow.Author.Tests.{eqb-true, eqb-false}
 use Rattle.machine.specs.Range.{matching}
 use Rattle.machine.specs.Words.{isCell}
 use Rattle.machine.specs.Table.{stride, capacity, firstFree, lastFree, tableLength, wordAt, putWord}
-use Rattle.machine.specs.Packets.{Counter, root, cell, Direction, plus, minus}
+use Rattle.machine.specs.Packets.{Counter, root, cell, name, Direction, plus, minus}
 use Rattle.machine.specs.Step.{counterWord, shifted, moveCount}
 use Rattle.machine.proofs.Range.{tested, matching-same, matching-other}
 use Rattle.machine.proofs.Words.{cell-index, cell-number, index-cell}
@@ -20,6 +20,7 @@ use Rattle.machine.proofs.Table.{room, word-same, word-other, length-pu
 pub counter-below : (k : Counter) → counterWord k < stride
 counter-below root = omega arith
 counter-below cell = omega arith
+counter-below name = omega arith
 
 pub shifted-none : (d : Direction) (n : ℕ) → shifted d n 0 ≡ n
 shifted-none plus n = omega arith

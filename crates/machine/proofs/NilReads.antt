@@ -9,8 +9,9 @@ use Rattle.machine.specs.declared.Queue.{Queue}
 use Rattle.machine.specs.Range.{everyOf}
 use Rattle.machine.specs.Words.{isNil, isLegal}
 use Rattle.machine.specs.Queue.{appended}
+use Rattle.machine.specs.Packets.{plus}
 use Rattle.machine.specs.Calls.{RowCall, car, cdr, cons, setLeft, setRight, up, down, row, value, Store, store, field, packetOf, readsNil, written, wordRead, valueOf}
-use Rattle.machine.specs.Step.{Outcome, outcome}
+use Rattle.machine.specs.Step.{named, Outcome, outcome}
 use Rattle.machine.specs.Questions.{refusedBy, firstNo, inRange, wordsLegal, xIsCell, askRead, earlyRow, early, lateQueued, lateRow, late, questions}
 use Rattle.machine.specs.Machine.{accepted}
 use Rattle.machine.specs.WrongAnswers.{OnlyAnswer}
@@ -63,7 +64,7 @@ late-queued t q r e = rw e
 -- what an accepted row call gives, by whether it reads nil
 abbrev pub queuedOutcome : Store → RowCall → Outcome
 queuedOutcome s r =
-    outcome (value (valueOf (s .table) r)) (store (written (s .table) r) (appended (s .queue) (packetOf (s .table) r)) (s .scratch))
+    outcome (value (valueOf (s .table) r)) (store (named plus (written (s .table) r) (packetOf (s .table) r)) (appended (s .queue) (packetOf (s .table) r)) (s .scratch))
 
 pub queued-accepted : (s : Store) (r : RowCall) → readsNil r ≡ false → accepted s (row r) ≡ queuedOutcome s r
 unfolding accepted

@@ -9,7 +9,6 @@ use native.Mathlib.Decide.{le-ind}
 use lib.ListN.{List·getD-eq-default}
 use Rattle.machine.specs.Range.{every, exists, total, tabulate}
 use Rattle.machine.specs.Table.{capacity}
-use Rattle.machine.specs.Queue.{Packet}
 use Rattle.machine.specs.Reached.{isRoot, pointsTo, ReachedBy, begun, onward, Reached, ReachedFrom, marked, spread, marks, reachedBy, reached, reachedFrom}
 use borrow.Author.Tests.{not-false}
 use lib.Dec.{eqb}
@@ -141,9 +140,9 @@ module _ (c : ℕ) (start : ℕ → Bool) (edge : ℕ → ℕ → Bool) where
   computes {i} r =
       ⊎-elim (λ w. marks-later (w .0) c i (w .1) (stable-all (w .0) (w .2) r)) (λ h. full (marks c start edge c) h i (reached-below r)) (grown c)
 
-pub reached-is : (t : List ℕ) (ps : List Packet) (i : ℕ) → (reached t ps i ≡ true) ↔ Reached t ps i
+pub reached-is : (t : List ℕ) (i : ℕ) → (reached t i ≡ true) ↔ Reached t i
 unfolding reached
-reached-is t ps i = (computed (capacity t) (isRoot t ps) (pointsTo t) i, λ r. computes (capacity t) (isRoot t ps) (pointsTo t) r)
+reached-is t i = (computed (capacity t) (isRoot t) (pointsTo t) i, λ r. computes (capacity t) (isRoot t) (pointsTo t) r)
 
 pub reachedFrom-is : (t : List ℕ) (j i : ℕ) → (reachedFrom t j i ≡ true) ↔ ReachedFrom t j i
 unfolding reachedFrom

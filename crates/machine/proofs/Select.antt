@@ -11,7 +11,6 @@ use lib.ListN.{length, length-append}
 use borrow.Author.Tests.{eqb-true, eq-eqb, not-true}
 use Rattle.machine.specs.Range.{exists, total, matching, occurrences, select}
 use Rattle.machine.specs.Table.{capacity, inUse}
-use Rattle.machine.specs.Queue.{Packet}
 use Rattle.machine.specs.Packets.{contains}
 use Rattle.machine.specs.Reached.{Reached, reached}
 use Rattle.machine.specs.Step.{unreached}
@@ -121,22 +120,22 @@ select-once (suc n) p i l = ⊎-elim (λ m. inside m (select-once n p i m)) last
         ∙ omega arith
 
 -- the cells that a step frees
-pub dead-is : (t : List ℕ) (ps : List Packet) → Dead t ps (unreached t ps)
+pub dead-is : (t : List ℕ) → Dead t (unreached t)
 unfolding unreached
-dead-is t ps = record { members = members; ascending = select-ascending (capacity t) dead }
+dead-is t = record { members = members; ascending = select-ascending (capacity t) dead }
   where
     dead : ℕ → Bool
-    dead i = inUse t i && not (reached t ps i)
+    dead i = inUse t i && not (reached t i)
 
-    members : (i : ℕ) → (contains (select (capacity t) dead) i ≡ true) ↔ ((i < capacity t) × (inUse t i ≡ true) × (Reached t ps i → ⊥))
+    members : (i : ℕ) → (contains (select (capacity t) dead) i ≡ true) ↔ ((i < capacity t) × (inUse t i ≡ true) × (Reached t i → ⊥))
     members i = (
       λ h. let w = select-members (capacity t) dead i .0 h in
-          (w .0, and-first (inUse t i) (not (reached t ps i)) (w .1), λ r. not-both (reached-is t ps i .1 r) (not-true (reached t ps i) (and-second (inUse t i) (not (reached t ps i)) (w .1)))),
+          (w .0, and-first (inUse t i) (not (reached t i)) (w .1), λ r. not-both (reached-is t i .1 r) (not-true (reached t i) (and-second (inUse t i) (not (reached t i)) (w .1)))),
       λ w. select-members (capacity t) dead i .1 (w .0, and-both (w .1) (unmarked (w .2))),
     )
       where
-        unmarked : (Reached t ps i → ⊥) → not (reached t ps i) ≡ true
-        unmarked f = ⊎-elim (λ e. absurd (f (reached-is t ps i .0 e))) (λ (e : reached t ps i ≡ false). rw e) (tested (reached t ps i))
+        unmarked : (Reached t i → ⊥) → not (reached t i) ≡ true
+        unmarked f = ⊎-elim (λ e. absurd (f (reached-is t i .0 e))) (λ (e : reached t i ≡ false). rw e) (tested (reached t i))
 
 -- how many pass
 pub select-length : (n : ℕ) (p : ℕ → Bool) → length (select n p) ≡ total n (λ i. cond (p i) 1 0)

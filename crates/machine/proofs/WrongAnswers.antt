@@ -23,6 +23,7 @@ wrong-answers = record {
   clipped = all-only table.clipped-entries refl;
   clip-order = all-only table.clip-order-entries refl;
   unclipped = all-only table.unclipped-entries refl;
+  names = all-only table.named-entries refl;
   freshes = all-only table.fresh-entries refl;
   steps = all-only table.step-entries refl;
   place-63 = all-only table.ring-entries refl;

@@ -7,9 +7,9 @@ use lib.Dec.{leb, eqb}
 use Rattle.machine.specs.declared.Queue.{Queue}
 use Rattle.machine.specs.Range.{every, everyOf, occurrences, lastOf}
 use Rattle.machine.specs.Words.{isNil, isCell, isAtom, isLegal, ceiling}
-use Rattle.machine.specs.Table.{stride, used, left, right, rootCount, cellCount, state, capacity, firstFree, lastFree, scratchWords, wordAt, putWord, inUse, isFree}
+use Rattle.machine.specs.Table.{stride, used, left, right, rootCount, cellCount, state, nameCount, capacity, firstFree, lastFree, scratchWords, wordAt, putWord, inUse, isFree}
 use Rattle.machine.specs.Queue.{Packet, slots, slot, waiting}
-use Rattle.machine.specs.Packets.{Kind, reads, makes, replaces, raises, lowers, unknown, kindOf, root, plus, minus, changes, movedBy, names, uses}
+use Rattle.machine.specs.Packets.{Kind, reads, makes, replaces, raises, lowers, unknown, kindOf, root, plus, minus, changes, movedBy, names, uses, timesNamed}
 use Rattle.machine.specs.Counts.{pointers}
 use Rattle.machine.specs.Reached.{reached}
 use Rattle.machine.specs.Calls.{field, Store, store, Reply, sound, broken}
@@ -89,11 +89,16 @@ unfoldable pub replays : ℕ → ℕ → List Packet → Bool
 replays x n [] = true
 replays x n (p ∷ ps) = leb (uses p x) n && leb (replayed x p n) ceiling && replays x (replayed x p n) ps
 
+-- each cell's name count is how many times waiting packets name it (document 02, A6)
+unfoldable pub namesCounted : List ℕ → List Packet → Bool
+namesCounted t ps = every (capacity t) (λ i. eqb (wordAt t i nameCount) (timesNamed ps (suc i)))
+
 unfoldable pub packetsSound : List ℕ → Queue → Bool
 packetsSound t q =
     otherSlotsZero q
     && packetsLegal t (waiting q)
     && every (capacity t) (λ i. replays (suc i) (wordAt t i rootCount) (waiting q))
+    && namesCounted t (waiting q)
 
 -- S4: a replaced field must hold a, and gets b; a new cell must hold a and b, and gets nil twice
 unfoldable pub undoableOf : List ℕ → Kind → ℕ → ℕ → ℕ → Bool
@@ -134,8 +139,8 @@ pointersSound t ps =
     undoes t ps && every (capacity t) (λ i. eqb (wordAt t i cellCount) (pointers (before t ps) (suc i)))
 
 -- S5: every cell in use is reached
-unfoldable pub allReached : List ℕ → List Packet → Bool
-allReached t ps = every (capacity t) (λ i. isFree t i || reached t ps i)
+unfoldable pub allReached : List ℕ → Bool
+allReached t = every (capacity t) (λ i. isFree t i || reached t i)
 
 unfoldable pub rules : List ℕ → Queue → List Question
 rules t q =
@@ -143,7 +148,7 @@ rules t q =
     ∷ ask 2 (chainSound t)
     ∷ ask 3 (packetsSound t q)
     ∷ ask 4 (pointersSound t (waiting q))
-    ∷ ask 5 (allReached t (waiting q))
+    ∷ ask 5 (allReached t)
     ∷ []
 
 -- sound, or the lowest-numbered rule broken
@@ -162,4 +167,4 @@ pub record Sound (t : List ℕ) (q : Queue) : Type 0 where
   pub chain : chainSound t ≡ true
   pub packets : packetsSound t q ≡ true
   pub pointed : pointersSound t (waiting q) ≡ true
-  pub live : allReached t (waiting q) ≡ true
+  pub live : allReached t ≡ true

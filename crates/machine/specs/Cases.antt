@@ -48,9 +48,9 @@ K1-replies =
 abbrev pub K1-table : List ℕ
 K1-table =
     3 ∷ 3 ∷ 2
-    ∷ 2 ∷ 0 ∷ 0 ∷ 0 ∷ 0
-    ∷ 0 ∷ 0 ∷ 0 ∷ 0 ∷ 0
-    ∷ 1 ∷ 0 ∷ 0 ∷ 0 ∷ 0 ∷ []
+    ∷ 2 ∷ 0 ∷ 0 ∷ 0 ∷ 0 ∷ 0
+    ∷ 0 ∷ 0 ∷ 0 ∷ 0 ∷ 0 ∷ 0
+    ∷ 1 ∷ 0 ∷ 0 ∷ 0 ∷ 0 ∷ 0 ∷ []
 
 -- these calls with 64 packets waiting and no cell free
 abbrev when-full : List Call → List Reply → Case
@@ -98,14 +98,14 @@ detach-replies =
 abbrev pub detach-table : List ℕ
 detach-table =
     3 ∷ 3 ∷ 3
-    ∷ 0 ∷ 0 ∷ 1 ∷ 0 ∷ 1
-    ∷ 0 ∷ 0 ∷ 1 ∷ 0 ∷ 1
-    ∷ 0 ∷ 0 ∷ 0 ∷ 0 ∷ 0 ∷ []
+    ∷ 0 ∷ 0 ∷ 1 ∷ 0 ∷ 1 ∷ 0
+    ∷ 0 ∷ 0 ∷ 1 ∷ 0 ∷ 1 ∷ 0
+    ∷ 0 ∷ 0 ∷ 0 ∷ 0 ∷ 0 ∷ 0 ∷ []
 
 -- a sound store of two cells in which only a waiting packet of kind 1 names cell 1 (figure 9): a step does not free it
 abbrev pub named-only : Store
 named-only =
-    store (2 ∷ 0 ∷ 0 ∷ 0 ∷ 0 ∷ 0 ∷ 0 ∷ 1 ∷ 0 ∷ 0 ∷ 1 ∷ 0 ∷ 1 ∷ [])
+    store (2 ∷ 0 ∷ 0 ∷ 0 ∷ 0 ∷ 0 ∷ 0 ∷ 1 ∷ 1 ∷ 0 ∷ 0 ∷ 1 ∷ 0 ∷ 1 ∷ 2 ∷ [])
     (appended (appended emptyQueue (packet 4 2 1 0)) (packet 1 2 1 0)) (0 ∷ 0 ∷ [])
 
 abbrev protected : Case
@@ -123,14 +123,14 @@ audits t q r = record { start = store t q (5 ∷ []); calls = audit ∷ []; expe
 -- waiting packet whose cell is not held; a cell count that is not the pointers; a cell in use that nothing reaches
 abbrev audit-cases : List Case
 audit-cases =
-    audits (1 ∷ 0 ∷ 0 ∷ 0 ∷ 0 ∷ 4096 ∷ 0 ∷ 1 ∷ []) emptyQueue (broken 1)
-    ∷ audits (1 ∷ 0 ∷ 0 ∷ 0 ∷ 0 ∷ 4095 ∷ 0 ∷ 1 ∷ []) emptyQueue sound
-    ∷ audits (1 ∷ 0 ∷ 0 ∷ 2 ∷ 0 ∷ 1 ∷ 0 ∷ 1 ∷ []) emptyQueue (broken 1)
-    ∷ audits (1 ∷ 0 ∷ 0 ∷ 0 ∷ 0 ∷ 0 ∷ 0 ∷ 0 ∷ []) emptyQueue (broken 2)
-    ∷ audits (1 ∷ 1 ∷ 1 ∷ 1 ∷ 0 ∷ 0 ∷ 0 ∷ 0 ∷ []) emptyQueue (broken 2)
-    ∷ audits (1 ∷ 0 ∷ 0 ∷ 0 ∷ 0 ∷ 1 ∷ 0 ∷ 1 ∷ []) (appended emptyQueue (packet 5 1 2 0)) (broken 3)
-    ∷ audits (1 ∷ 0 ∷ 0 ∷ 0 ∷ 0 ∷ 1 ∷ 1 ∷ 1 ∷ []) emptyQueue (broken 4)
-    ∷ audits (1 ∷ 0 ∷ 0 ∷ 1 ∷ 0 ∷ 0 ∷ 1 ∷ 1 ∷ []) emptyQueue (broken 5)
+    audits (1 ∷ 0 ∷ 0 ∷ 0 ∷ 0 ∷ 4096 ∷ 0 ∷ 1 ∷ 0 ∷ []) emptyQueue (broken 1)
+    ∷ audits (1 ∷ 0 ∷ 0 ∷ 0 ∷ 0 ∷ 4095 ∷ 0 ∷ 1 ∷ 0 ∷ []) emptyQueue sound
+    ∷ audits (1 ∷ 0 ∷ 0 ∷ 2 ∷ 0 ∷ 1 ∷ 0 ∷ 1 ∷ 0 ∷ []) emptyQueue (broken 1)
+    ∷ audits (1 ∷ 0 ∷ 0 ∷ 0 ∷ 0 ∷ 0 ∷ 0 ∷ 0 ∷ 0 ∷ []) emptyQueue (broken 2)
+    ∷ audits (1 ∷ 1 ∷ 1 ∷ 1 ∷ 0 ∷ 0 ∷ 0 ∷ 0 ∷ 0 ∷ []) emptyQueue (broken 2)
+    ∷ audits (1 ∷ 0 ∷ 0 ∷ 0 ∷ 0 ∷ 1 ∷ 0 ∷ 1 ∷ 1 ∷ []) (appended emptyQueue (packet 5 1 2 0)) (broken 3)
+    ∷ audits (1 ∷ 0 ∷ 0 ∷ 0 ∷ 0 ∷ 1 ∷ 1 ∷ 1 ∷ 0 ∷ []) emptyQueue (broken 4)
+    ∷ audits (1 ∷ 0 ∷ 0 ∷ 1 ∷ 0 ∷ 0 ∷ 1 ∷ 1 ∷ 0 ∷ []) emptyQueue (broken 5)
     ∷ []
 
 -- the walk of a list of three with cdr to its end, and one read past it; the packets of the cons calls and of three reads are all that wait

@@ -88,9 +88,9 @@ Ascending [] = Unit {0}
 Ascending (i ∷ []) = Unit {0}
 Ascending (i ∷ j ∷ is) = (i < j) × Ascending (j ∷ is)
 
--- The cells that a step frees, of a table t with the packets ps waiting: those in use that are not reached, each once, ascending.
-pub record Dead (t : List ℕ) (ps : List Packet) (dead : List ℕ) : Type 0 where
-  pub members : (i : ℕ) → (contains dead i ≡ true) ↔ ((i < capacity t) × (inUse t i ≡ true) × (Reached t ps i → ⊥))
+-- The cells that a step frees, of a table t: those in use that are not reached, each once, ascending.
+pub record Dead (t : List ℕ) (dead : List ℕ) : Type 0 where
+  pub members : (i : ℕ) → (contains dead i ≡ true) ↔ ((i < capacity t) × (inUse t i ≡ true) × (Reached t i → ⊥))
   pub ascending : Ascending dead
 
 -- how often the fields of the cells at these indices contain x

@@ -17,6 +17,7 @@ pub mod Machine
 pub mod Answers
 pub mod Promise
 pub mod AuditedSound
+pub mod RootsByCell
 pub mod Counters
 pub mod Cases
 pub mod Stages

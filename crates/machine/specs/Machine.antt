@@ -5,7 +5,7 @@ use Rattle.notation.specs.Trees.{Tree}
 use Rattle.notation.specs.Parse.{parse, meaning}
 use Rattle.machine.specs.Queue.{emptyQueue, appendedAll}
 use Rattle.machine.specs.Calls.{RowCall, cons, Call, fresh, row, step, audit, read, write, Reply, value, refused, text, Store, store, packetsOf, written, valueOf, freshTable}
-use Rattle.machine.specs.Step.{Outcome, outcome, stepped}
+use Rattle.machine.specs.Step.{namedAll, Outcome, outcome, stepped}
 use Rattle.machine.specs.Texts.{buildBy, textFor}
 use Rattle.machine.specs.Questions.{questions, firstNo}
 use Rattle.machine.specs.Audit.{audited}
@@ -15,11 +15,11 @@ abbrev pub refusedOr : ℕ → Store → Outcome → Outcome
 refusedOr zero s o = o
 refusedOr (suc n) s o = outcome (refused (suc n)) s
 
--- what an accepted row call gives
+-- what an accepted row call gives: its packet is queued, and the cells that it names are named so much more often
 abbrev pub acceptedRow : Store → RowCall → Outcome
 acceptedRow s r =
-    outcome (value (valueOf (s .table) r))
-    (store (written (s .table) r) (appendedAll (s .queue) (packetsOf (s .table) r)) (s .scratch))
+    let ps = packetsOf (s .table) r in
+    outcome (value (valueOf (s .table) r)) (store (namedAll (written (s .table) r) ps) (appendedAll (s .queue) ps) (s .scratch))
 
 -- the machine's cons
 unfoldable pub consed : Store → ℕ → ℕ → Outcome

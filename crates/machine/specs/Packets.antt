@@ -3,7 +3,7 @@ use mathlib.Core.Bool.{Bool, true, false, cond, _&&_, _||_}
 use mathlib.Core.List.{List, [], _∷_}
 use Prim.Native.Nat.{ℕ, _+_}
 use lib.Dec.{eqb}
-use Rattle.machine.specs.Range.{matching}
+use Rattle.machine.specs.Range.{matching, occurrences}
 use Rattle.machine.specs.Table.{left, right}
 use Rattle.machine.specs.Queue.{Packet}
 
@@ -25,10 +25,11 @@ kindOf k =
     (cond (eqb k 5) lowers
     (cond (eqb k 6) (replaces right) unknown)))))
 
--- a root count and a cell count are counters of two sorts
+-- a root count and a cell count are counters of two sorts, a name count (document 02, A6) one of a third
 pub data Counter : Type 0 where
   root : Counter
   cell : Counter
+  name : Counter
 
 pub data Direction : Type 0 where
   plus : Direction
@@ -86,6 +87,11 @@ namesOf unknown a b c = []
 unfoldable pub names : Packet → List ℕ
 names p = namesOf (kindOf (p .kind)) (p .a) (p .b) (p .c)
 
+-- the name counts of these words changed: once for each place at which a cell stands
+unfoldable pub nameChanges : Direction → List ℕ → List Change
+nameChanges d [] = []
+nameChanges d (w ∷ ws) = change name w d 1 ∷ nameChanges d ws
+
 -- how often the call behind a packet names x: its operands that are cells, and down its cell n times
 unfoldable pub usesOf : Kind → ℕ → ℕ → ℕ → ℕ → ℕ
 usesOf reads a b c x = matching a x 1
@@ -101,8 +107,13 @@ uses p x = usesOf (kindOf (p .kind)) (p .a) (p .b) (p .c) x
 abbrev pub sameCounter : Counter → Counter → Bool
 sameCounter root root = true
 sameCounter root cell = false
+sameCounter root name = false
 sameCounter cell root = false
 sameCounter cell cell = true
+sameCounter cell name = false
+sameCounter name root = false
+sameCounter name cell = false
+sameCounter name name = true
 
 abbrev pub sameDirection : Direction → Direction → Bool
 sameDirection plus plus = true
@@ -129,3 +140,8 @@ contains (w ∷ ws) x = eqb w x || contains ws x
 unfoldable pub isNamed : List Packet → ℕ → Bool
 isNamed [] x = false
 isNamed (p ∷ ps) x = contains (names p) x || isNamed ps x
+
+-- how many times waiting packets name x, a packet counting once for each place
+unfoldable pub timesNamed : List Packet → ℕ → ℕ
+timesNamed [] x = 0
+timesNamed (p ∷ ps) x = occurrences x (names p) + timesNamed ps x

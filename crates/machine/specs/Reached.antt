@@ -6,13 +6,21 @@ use Prim.Native.Nat.{ℕ, zero, suc, _<_}
 use lib.Dec.{ltb, eqb}
 use lib.ListN.{getD}
 use Rattle.machine.specs.Range.{exists, tabulate}
-use Rattle.machine.specs.Table.{left, right, rootCount, capacity, wordAt}
+use Rattle.machine.specs.Table.{left, right, rootCount, nameCount, capacity, wordAt}
 use Rattle.machine.specs.Queue.{Packet}
 use Rattle.machine.specs.Packets.{isNamed}
 
--- "Root": a cell whose root count is above 0 or which a waiting packet names
-unfoldable pub isRoot : List ℕ → List Packet → ℕ → Bool
-isRoot t ps i = ltb 0 (wordAt t i rootCount) || isNamed ps (suc i)
+-- protected: waiting packets name the cell
+unfoldable pub isProtected : List ℕ → ℕ → Bool
+isProtected t i = ltb 0 (wordAt t i nameCount)
+
+-- "Root", told from the cell alone (document 02, A6): its root count is above 0, or it is protected
+unfoldable pub isRoot : List ℕ → ℕ → Bool
+isRoot t i = ltb 0 (wordAt t i rootCount) || isProtected t i
+
+-- going through the queue, as document 01 words it: a cell whose root count is above 0 or which a waiting packet names
+unfoldable pub isRootByQueue : List ℕ → List Packet → ℕ → Bool
+isRootByQueue t ps i = ltb 0 (wordAt t i rootCount) || isNamed ps (suc i)
 
 -- the cell at index i is in a field of the cell at index j
 unfoldable pub pointsTo : List ℕ → ℕ → ℕ → Bool
@@ -24,8 +32,11 @@ pub data ReachedBy (c : ℕ) (start : ℕ → Bool) (edge : ℕ → ℕ → Bool
   onward : {j i : ℕ} → ReachedBy c start edge j → i < c → edge j i ≡ true → ReachedBy c start edge i
 
 -- "Reached": a root, or in a field of a reached cell
-abbrev pub Reached : List ℕ → List Packet → ℕ → Type 0
-Reached t ps = ReachedBy (capacity t) (isRoot t ps) (pointsTo t)
+abbrev pub Reached : List ℕ → ℕ → Type 0
+Reached t = ReachedBy (capacity t) (isRoot t) (pointsTo t)
+
+abbrev pub ReachedByQueue : List ℕ → List Packet → ℕ → Type 0
+ReachedByQueue t ps = ReachedBy (capacity t) (isRootByQueue t ps) (pointsTo t)
 
 -- "Reached from" a cell: that cell itself, or in a field of a cell reached from it
 abbrev pub ReachedFrom : List ℕ → ℕ → ℕ → Type 0
@@ -47,8 +58,11 @@ marks c start edge (suc n) = spread c edge (marks c start edge n)
 unfoldable pub reachedBy : ℕ → (ℕ → Bool) → (ℕ → ℕ → Bool) → ℕ → Bool
 reachedBy c start edge i = marked (marks c start edge c) i
 
-unfoldable pub reached : List ℕ → List Packet → ℕ → Bool
-reached t ps i = reachedBy (capacity t) (isRoot t ps) (pointsTo t) i
+unfoldable pub reached : List ℕ → ℕ → Bool
+reached t i = reachedBy (capacity t) (isRoot t) (pointsTo t) i
+
+unfoldable pub reachedByQueue : List ℕ → List Packet → ℕ → Bool
+reachedByQueue t ps i = reachedBy (capacity t) (isRootByQueue t ps) (pointsTo t) i
 
 unfoldable pub reachedFrom : List ℕ → ℕ → ℕ → Bool
 reachedFrom t j i = reachedBy (capacity t) (eqb j) (pointsTo t) i

@@ -24,5 +24,5 @@ unfoldable pub watched : Packet → ℕ
 watched p = watchedOf (kindOf (p .kind)) (p .a) (p .b) (p .c)
 
 -- the word w is no cell, or a root
-unfoldable pub staysRoot : List ℕ → List Packet → ℕ → Bool
-staysRoot t ps w = not (isCell (capacity t) w) || isRoot t ps (pred w)
+unfoldable pub staysRoot : List ℕ → ℕ → Bool
+staysRoot t w = not (isCell (capacity t) w) || isRoot t (pred w)

@@ -18,9 +18,9 @@ stage t p n = applyChanges t (take n (changes p))
 abbrev stages : List ℕ → Packet → List (List ℕ)
 stages t p = map (stage t p) (select (suc (length (changes p))) (λ n. true))
 
--- two cells with these root and cell counts, the second's left field pointing to the first
+-- two cells with these root and cell counts, the second's left field pointing to the first; one packet names the first twice and the second once
 abbrev counted : ℕ → ℕ → ℕ → ℕ → List ℕ
-counted r c s d = 2 ∷ 0 ∷ 0 ∷ 0 ∷ 0 ∷ r ∷ c ∷ 1 ∷ 1 ∷ 0 ∷ s ∷ d ∷ 1 ∷ []
+counted r c s d = 2 ∷ 0 ∷ 0 ∷ 0 ∷ 0 ∷ r ∷ c ∷ 1 ∷ 2 ∷ 1 ∷ 0 ∷ s ∷ d ∷ 1 ∷ 1 ∷ []
 
 -- a packet taken from a table, and the tables that it passes through
 pub record Way : Type 0 where

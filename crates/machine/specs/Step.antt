@@ -6,9 +6,9 @@ use lib.Dec.{eqb}
 use lib.ListN.{length, drop, replicate}
 use Rattle.machine.specs.Range.{select}
 use Rattle.machine.specs.Words.{isCell}
-use Rattle.machine.specs.Table.{left, right, rootCount, cellCount, capacity, firstFree, lastFree, freeCell, scratchWords, wordAt, putWord, putEnds, putCell, inUse}
+use Rattle.machine.specs.Table.{left, right, rootCount, cellCount, nameCount, capacity, firstFree, lastFree, freeCell, scratchWords, wordAt, putWord, putEnds, putCell, inUse}
 use Rattle.machine.specs.Queue.{Packet, waiting, taken}
-use Rattle.machine.specs.Packets.{Counter, root, cell, Direction, plus, minus, Change, changes}
+use Rattle.machine.specs.Packets.{Counter, root, cell, name, Direction, plus, minus, Change, changes, names, nameChanges}
 use Rattle.machine.specs.Reached.{reached}
 use Rattle.machine.specs.Calls.{Reply, idle, applied, Store, store}
 
@@ -16,6 +16,7 @@ use Rattle.machine.specs.Calls.{Reply, idle, applied, Store, store}
 abbrev pub counterWord : Counter → ℕ
 counterWord root = rootCount
 counterWord cell = cellCount
+counterWord name = nameCount
 
 -- a count raised or lowered by n
 abbrev pub shifted : Direction → ℕ → ℕ → ℕ
@@ -32,9 +33,22 @@ unfoldable pub applyChanges : List ℕ → List Change → List ℕ
 applyChanges t [] = t
 applyChanges t (h ∷ hs) = applyChanges (moveCount t (h .counter) (h .word) (h .direction) (h .amount)) hs
 
+-- the cells that a packet names, one more time for each place when it is queued, one less when it is taken (document 02, A6)
+unfoldable pub named : Direction → List ℕ → Packet → List ℕ
+named d t p = applyChanges t (nameChanges d (names p))
+
+-- packets queued in their order
+abbrev pub namedAll : List ℕ → List Packet → List ℕ
+namedAll t [] = t
+namedAll t (p ∷ ps) = namedAll (named plus t p) ps
+
+-- the packet applied: its changes are made, and it names its cells no longer
+unfoldable pub applyPacket : List ℕ → Packet → List ℕ
+applyPacket t p = named minus (applyChanges t (changes p)) p
+
 -- the indices of the cells in use that are not reached, ascending
-unfoldable pub unreached : List ℕ → List Packet → List ℕ
-unreached t ps = select (capacity t) (λ i. inUse t i && not (reached t ps i))
+unfoldable pub unreached : List ℕ → List ℕ
+unreached t = select (capacity t) (λ i. inUse t i && not (reached t i))
 
 -- each pointer out of the cells at these indices lowers a cell count
 unfoldable pub lowerPointers : List ℕ → List ℕ → List ℕ
@@ -68,17 +82,17 @@ pub record Outcome : Type 0 where
 abbrev pub outcome : Reply → Store → Outcome
 outcome r s = record { reply = r; after = s }
 
--- a step that takes the packet p, with ps waiting behind it
-unfoldable pub stepWith : Store → Packet → List Packet → Outcome
-stepWith s p ps =
-    let t = applyChanges (s .table) (changes p) in
-    let dead = unreached t ps in
+-- a step that takes the packet p
+unfoldable pub stepWith : Store → Packet → Outcome
+stepWith s p =
+    let t = applyPacket (s .table) p in
+    let dead = unreached t in
     outcome (applied (p .kind) (length dead)) (store (swept t dead) (taken (s .queue)) (cleared (scratchWords (capacity t)) (s .scratch)))
 
 -- with no packet waiting the reply is idle and nothing changes; else the oldest packet is applied
 unfoldable pub stepFrom : Store → List Packet → Outcome
 stepFrom s [] = outcome idle s
-stepFrom s (p ∷ ps) = stepWith s p ps
+stepFrom s (p ∷ ps) = stepWith s p
 
 unfoldable pub stepped : Store → Outcome
 stepped s = stepFrom s (waiting (s .queue))

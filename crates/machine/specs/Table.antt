@@ -1,4 +1,4 @@
--- "The table": a lent run of words: C, first free cell, last free cell, then the cells, five words each. Only this module knows the layout.
+-- "The table": a lent run of words: C, first free cell, last free cell, then the cells, six words each (document 02, A6). Only this module knows the layout.
 -- A cell is told by its index, its number less one, so that indices run from 0.
 use mathlib.Core.Bool.{Bool, not}
 use mathlib.Core.List.{List, [], _∷_}
@@ -8,12 +8,12 @@ use lib.ListN.{getD, set, replicate}
 
 -- words in a cell, and in front of the cells
 abbrev pub stride : ℕ
-stride = 5
+stride = 6
 
 abbrev pub header : ℕ
 header = 3
 
--- the words of a cell: left, right, root count, cell count, state
+-- the words of a cell: left, right, root count, cell count, state, and how many times waiting packets name it
 abbrev pub left : ℕ
 left = 0
 
@@ -29,6 +29,9 @@ cellCount = 3
 abbrev pub state : ℕ
 state = 4
 
+abbrev pub nameCount : ℕ
+nameCount = 5
+
 -- the state of a new cell
 abbrev pub used : ℕ
 used = 1
@@ -37,9 +40,9 @@ used = 1
 abbrev pub freeCell : ℕ → List ℕ
 freeCell next = next ∷ replicate (pred stride) 0
 
--- a new cell: both operands, root count 1 and cell count 0
+-- a new cell: both operands, root count 1 and cell count 0; its packet is to name it
 abbrev pub newCell : ℕ → ℕ → List ℕ
-newCell x y = x ∷ y ∷ 1 ∷ 0 ∷ used ∷ []
+newCell x y = x ∷ y ∷ 1 ∷ 0 ∷ used ∷ 0 ∷ []
 
 -- C
 unfoldable pub capacity : List ℕ → ℕ

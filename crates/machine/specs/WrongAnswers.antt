@@ -8,12 +8,14 @@ use Rattle.base_ten.specs.Bytes.{ascii}
 use Rattle.machine.specs.declared.Queue.{Queue}
 use Rattle.machine.specs.Table.{stride, tableLength, capacity, scratchWords}
 use Rattle.machine.specs.Queue.{Packet, packet, slots, emptyQueue, putSlot, appended}
+use Rattle.machine.specs.Packets.{plus}
 use Rattle.machine.specs.Calls.{Call, fresh, row, step, audit, read, write, RowCall, car, cdr, cons, setLeft, setRight, up, down}
 use Rattle.machine.specs.Calls.{Reply, value, refused, idle, applied, sound, broken, text, Store, store, readsNil}
-use Rattle.machine.specs.Step.{cleared}
+use Rattle.machine.specs.Step.{named, cleared}
 use Rattle.machine.specs.Questions.{Question, inRange, questions}
 use Rattle.machine.specs.Audit.{rules}
 use Rattle.machine.specs.Promise.{Decided, Promise}
+use Rattle.machine.specs.Cases.{named-only}
 
 -- the numbers of all questions, or rules, that say "no"
 unfoldable pub noes : List Question → List ℕ
@@ -47,21 +49,25 @@ AllOnly (e ∷ es) = Only e × AllOnly es
 
 -- one cell, in use and held once; the same beside a free cell; each with a word past the cells and one past the scratch that is needed
 abbrev alone : List ℕ
-alone = 1 ∷ 0 ∷ 0 ∷ 0 ∷ 32775 ∷ 1 ∷ 0 ∷ 1 ∷ 77 ∷ []
+alone = 1 ∷ 0 ∷ 0 ∷ 0 ∷ 32775 ∷ 1 ∷ 0 ∷ 1 ∷ 0 ∷ 77 ∷ []
 
 abbrev held : List ℕ
-held = 2 ∷ 2 ∷ 2 ∷ 0 ∷ 32775 ∷ 1 ∷ 0 ∷ 1 ∷ 0 ∷ 0 ∷ 0 ∷ 0 ∷ 0 ∷ 77 ∷ []
+held = 2 ∷ 2 ∷ 2 ∷ 0 ∷ 32775 ∷ 1 ∷ 0 ∷ 1 ∷ 0 ∷ 0 ∷ 0 ∷ 0 ∷ 0 ∷ 0 ∷ 0 ∷ 77 ∷ []
 
 abbrev lent : List ℕ → Queue → Store
 lent t q = store t q (7 ∷ 7 ∷ 9 ∷ [])
 
 -- two cells held three times each with fields of their own, and a free one
 abbrev pairs : List ℕ
-pairs = 3 ∷ 3 ∷ 3 ∷ 32769 ∷ 32770 ∷ 3 ∷ 0 ∷ 1 ∷ 32771 ∷ 32772 ∷ 3 ∷ 0 ∷ 1 ∷ 0 ∷ 0 ∷ 0 ∷ 0 ∷ 0 ∷ 77 ∷ []
+pairs = 3 ∷ 3 ∷ 3 ∷ 32769 ∷ 32770 ∷ 3 ∷ 0 ∷ 1 ∷ 0 ∷ 32771 ∷ 32772 ∷ 3 ∷ 0 ∷ 1 ∷ 0 ∷ 0 ∷ 0 ∷ 0 ∷ 0 ∷ 0 ∷ 0 ∷ 77 ∷ []
+
+-- a table whose cells 1 and 2 are named so often
+abbrev namedSo : List ℕ → ℕ → ℕ → List ℕ
+namedSo t n m = set (set t 8 n) 14 m
 
 -- two cells in a ring, of which only the first is held, as often as can be
 abbrev ring : List ℕ
-ring = 2 ∷ 0 ∷ 0 ∷ 2 ∷ 0 ∷ 4095 ∷ 1 ∷ 1 ∷ 1 ∷ 0 ∷ 0 ∷ 1 ∷ 1 ∷ []
+ring = 2 ∷ 0 ∷ 0 ∷ 2 ∷ 0 ∷ 4095 ∷ 1 ∷ 1 ∷ 0 ∷ 1 ∷ 0 ∷ 0 ∷ 1 ∷ 1 ∷ 0 ∷ []
 
 -- a queue with another place and count
 abbrev at : ℕ → ℕ → Queue → Queue
@@ -87,7 +93,7 @@ abbrev quiet : Store
 quiet = lent held emptyQueue
 
 abbrev busy : Store
-busy = lent held full
+busy = lent (set held 8 64) full
 
 abbrev outside : Store
 outside = lent (set held 1 3) emptyQueue
@@ -100,12 +106,12 @@ refusals n ns s calls = map (λ call. refuses s call n ns) calls
 abbrev findings : ℕ → List ℕ → List Store → List Entry
 findings n ns ss = map (λ s. finds s n ns) ss
 
--- tables with no packet waiting; packets that wait alone, or do not wait, beside a sound table
+-- tables with no packet waiting; packets that wait alone, whose cells are named so, or do not wait, beside a sound table
 abbrev tables : List (List ℕ) → List Store
 tables ts = map (λ t. lent t emptyQueue) ts
 
 abbrev waiters : List Packet → List Store
-waiters ps = map (λ p. lent held (only p)) ps
+waiters ps = map (λ p. lent (named plus held p) (only p)) ps
 
 abbrev strays : List Packet → List Store
 strays ps = map (λ p. lent held (stray p)) ps
@@ -123,8 +129,12 @@ range-entries =
     ∷ refuses (lent held (at 64 0 emptyQueue)) audit 1 []
     ∷ refuses (lent held (at 0 65 emptyQueue)) audit 1 []
     -- the table is one word too short, for its cells or for those that fresh is to make;
-    ∷ refuses (lent (take 12 held) emptyQueue) audit 1 []
-    ∷ refuses (lent (replicate 17 0) emptyQueue) (fresh 3) 1 []
+    ∷ refuses (lent (take 14 held) emptyQueue) audit 1 []
+    ∷ refuses (lent (replicate 20 0) emptyQueue) (fresh 3) 1 []
+    -- or has five words for each cell, as before document 02, A6;
+    ∷ refuses (lent (take 13 held) emptyQueue) audit 1 []
+    ∷ refuses (lent (take 13 held) emptyQueue) (row (car 1)) 1 []
+    ∷ refuses (lent (replicate 18 0) emptyQueue) (fresh 3) 1 []
     -- by other calls
     ∷ refusals 1 [] outside (step ∷ row (car 1) ∷ row (cdr 1) ∷ row (cons 0 1) ∷ row (up 1 1) ∷ row (down 1 1) ∷ [])
 
@@ -169,7 +179,7 @@ order-entries =
     ∷ refuses busy (row (car 2)) 6 (7 ∷ [])
     ∷ refuses (lent alone emptyQueue) (row (cons 1 1)) 6 (8 ∷ [])
     ∷ refuses (lent ring emptyQueue) (row (car 2)) 6 (9 ∷ [])
-    ∷ refuses (lent alone full) (row (cons 0 0)) 7 (8 ∷ [])
+    ∷ refuses (lent (set alone 8 64) full) (row (cons 0 0)) 7 (8 ∷ [])
     ∷ refuses busy (row (up 1 4095)) 7 (9 ∷ [])
     ∷ []
 
@@ -181,27 +191,27 @@ repeated (suc n) ws = ws ++ repeated n ws
 
 -- n cells and the first, held so often, with this word in its right field
 unfoldable pub crowded : ℕ → ℕ → ℕ → List ℕ
-crowded n word holds = suc n ∷ 0 ∷ 0 ∷ 1 ∷ word ∷ holds ∷ suc (2 * n) ∷ 1 ∷ repeated n (1 ∷ 1 ∷ 1 ∷ 0 ∷ 1 ∷ [])
+crowded n word holds = suc n ∷ 0 ∷ 0 ∷ 1 ∷ word ∷ holds ∷ suc (2 * n) ∷ 1 ∷ 0 ∷ repeated n (1 ∷ 1 ∷ 1 ∷ 0 ∷ 1 ∷ 0 ∷ [])
 
 abbrev pub pointer-entries : List Entry
 pointer-entries =
     refuses (lent (crowded 2047 0 2) emptyQueue) (row (setRight 1 1)) 10 []
     ∷ refuses (lent (crowded 2047 0 1) emptyQueue) (row (setRight 1 1)) 6 (10 ∷ [])
-    -- or asked of the count in passing: a replace of the first cell by itself
-    ∷ gives (lent (crowded 2047 0 2) emptyQueue) (row (setLeft 1 1)) (value 1) (lent (crowded 2047 0 2) (only (packet 3 1 1 1)))
+    -- or asked of the count in passing: a replace of the first cell by itself, whose packet names it three times
+    ∷ gives (lent (crowded 2047 0 2) emptyQueue) (row (setLeft 1 1)) (value 1) (lent (set (crowded 2047 0 2) 8 3) (only (packet 3 1 1 1)))
     ∷ []
 
 -- row calls that read, write, reply or queue another word (of the packet a, b or c), or write past the cells
 abbrev pub row-entries : List Entry
 row-entries =
-    gives (lent pairs emptyQueue) (row (car 2)) (value 32771) (lent pairs (only (packet 1 2 32771 0)))
-    ∷ gives (lent pairs emptyQueue) (row (cdr 2)) (value 32772) (lent pairs (only (packet 1 2 32772 0)))
+    gives (lent pairs emptyQueue) (row (car 2)) (value 32771) (lent (namedSo pairs 0 1) (only (packet 1 2 32771 0)))
+    ∷ gives (lent pairs emptyQueue) (row (cdr 2)) (value 32772) (lent (namedSo pairs 0 1) (only (packet 1 2 32772 0)))
     ∷ gives (lent pairs emptyQueue) (row (cons 1 2)) (value 3)
-    (lent (3 ∷ 0 ∷ 0 ∷ 32769 ∷ 32770 ∷ 3 ∷ 0 ∷ 1 ∷ 32771 ∷ 32772 ∷ 3 ∷ 0 ∷ 1 ∷ 1 ∷ 2 ∷ 1 ∷ 0 ∷ 1 ∷ 77 ∷ []) (only (packet 2 1 2 3)))
-    ∷ gives (lent pairs emptyQueue) (row (setLeft 2 1)) (value 32771) (lent (set pairs 8 1) (only (packet 3 1 32771 2)))
-    ∷ gives (lent pairs emptyQueue) (row (setRight 2 1)) (value 32772) (lent (set pairs 9 1) (only (packet 6 1 32772 2)))
-    ∷ gives (lent pairs emptyQueue) (row (up 2 3)) (value 0) (lent pairs (only (packet 4 2 3 0)))
-    ∷ gives (lent pairs emptyQueue) (row (down 2 3)) (value 0) (lent pairs (only (packet 5 2 3 0)))
+    (lent (3 ∷ 0 ∷ 0 ∷ 32769 ∷ 32770 ∷ 3 ∷ 0 ∷ 1 ∷ 1 ∷ 32771 ∷ 32772 ∷ 3 ∷ 0 ∷ 1 ∷ 1 ∷ 1 ∷ 2 ∷ 1 ∷ 0 ∷ 1 ∷ 1 ∷ 77 ∷ []) (only (packet 2 1 2 3)))
+    ∷ gives (lent pairs emptyQueue) (row (setLeft 2 1)) (value 32771) (lent (namedSo (set pairs 9 1) 1 1) (only (packet 3 1 32771 2)))
+    ∷ gives (lent pairs emptyQueue) (row (setRight 2 1)) (value 32772) (lent (namedSo (set pairs 10 1) 1 1) (only (packet 6 1 32772 2)))
+    ∷ gives (lent pairs emptyQueue) (row (up 2 3)) (value 0) (lent (namedSo pairs 0 1) (only (packet 4 2 3 0)))
+    ∷ gives (lent pairs emptyQueue) (row (down 2 3)) (value 0) (lent (namedSo pairs 0 1) (only (packet 5 2 3 0)))
     ∷ []
 
 -- reads of nil that give nil and change nothing
@@ -223,24 +233,24 @@ nil-entries =
     -- question 1 not asked
     ++ refusals 1 [] outside nil-calls
 
--- fresh with another chain, a queue that is not empty, or words past the cells written
+-- fresh with another chain, a word of a cell left, a queue that is not empty, or words past the cells written
 abbrev pub fresh-entries : List Entry
 fresh-entries =
-    gives (lent (replicate 13 5 ++ (77 ∷ [])) full) (fresh 2) (value 0)
-    (lent (2 ∷ 1 ∷ 2 ∷ 2 ∷ 0 ∷ 0 ∷ 0 ∷ 0 ∷ 0 ∷ 0 ∷ 0 ∷ 0 ∷ 0 ∷ 77 ∷ []) emptyQueue)
+    gives (lent (replicate 15 5 ++ (77 ∷ [])) full) (fresh 2) (value 0)
+    (lent (2 ∷ 1 ∷ 2 ∷ 2 ∷ 0 ∷ 0 ∷ 0 ∷ 0 ∷ 0 ∷ 0 ∷ 0 ∷ 0 ∷ 0 ∷ 0 ∷ 0 ∷ 77 ∷ []) emptyQueue)
     ∷ []
 
 -- steps, each with a word past the cells and one past the scratch's front that must stand, a front to be cleared and a taken slot to be zero
 abbrev pub step-entries : List Entry
 step-entries =
     -- idle with a packet waiting, or the packet not applied
-    gives (lent alone (only (packet 4 1 2 0))) step (applied 4 0) (store (set alone 5 3) (at 1 0 emptyQueue) (0 ∷ 7 ∷ 9 ∷ []))
+    gives (lent (set alone 8 1) (only (packet 4 1 2 0))) step (applied 4 0) (store (set alone 5 3) (at 1 0 emptyQueue) (0 ∷ 7 ∷ 9 ∷ []))
     -- nothing freed, another number told, or the roots looked for before the packet is applied
-    ∷ gives (lent alone (only (packet 5 1 1 0))) step (applied 5 1)
-    (store (1 ∷ 1 ∷ 1 ∷ 0 ∷ 0 ∷ 0 ∷ 0 ∷ 0 ∷ 77 ∷ []) (at 1 0 emptyQueue) (0 ∷ 7 ∷ 9 ∷ []))
+    ∷ gives (lent (set alone 8 1) (only (packet 5 1 1 0))) step (applied 5 1)
+    (store (1 ∷ 1 ∷ 1 ∷ 0 ∷ 0 ∷ 0 ∷ 0 ∷ 0 ∷ 0 ∷ 77 ∷ []) (at 1 0 emptyQueue) (0 ∷ 7 ∷ 9 ∷ []))
     -- all packets taken at once
-    ∷ gives (lent alone (appended (only (packet 4 1 2 0)) (packet 5 1 3 0))) step (applied 4 0)
-    (store (set alone 5 3) (putSlot emptyQueue 1 (packet 5 1 3 0) 1 1) (0 ∷ 7 ∷ 9 ∷ []))
+    ∷ gives (lent (set alone 8 2) (appended (only (packet 4 1 2 0)) (packet 5 1 3 0))) step (applied 4 0)
+    (store (set (set alone 5 3) 8 1) (putSlot emptyQueue 1 (packet 5 1 3 0) 1 1) (0 ∷ 7 ∷ 9 ∷ []))
     -- the scratch cleared, or anything else changed, although no packet waits: on a sound store and on another
     ∷ gives (lent alone emptyQueue) step idle (lent alone emptyQueue)
     ∷ gives (lent (set alone 7 2) emptyQueue) step idle (lent (set alone 7 2) emptyQueue)
@@ -249,15 +259,15 @@ step-entries =
 -- place 63 not followed by 0: a packet taken there, and one appended behind it
 abbrev pub ring-entries : List Entry
 ring-entries =
-    gives (lent alone (last (packet 4 1 2 0))) step (applied 4 0) (store (set alone 5 3) emptyQueue (0 ∷ 7 ∷ 9 ∷ []))
-    ∷ gives (lent alone (last (packet 4 1 2 0))) (row (up 1 3)) (value 0) (lent alone (putSlot (last (packet 4 1 2 0)) 0 (packet 4 1 3 0) 63 2))
+    gives (lent (set alone 8 1) (last (packet 4 1 2 0))) step (applied 4 0) (store (set alone 5 3) emptyQueue (0 ∷ 7 ∷ 9 ∷ []))
+    ∷ gives (lent (set alone 8 1) (last (packet 4 1 2 0))) (row (up 1 3)) (value 0) (lent (set alone 8 2) (putSlot (last (packet 4 1 2 0)) 0 (packet 4 1 3 0) 63 2))
     ∷ []
 
 -- audits that write the table, the queue or past the scratch's front, or leave the front
 abbrev pub audit-entries : List Entry
 audit-entries =
     gives (lent alone emptyQueue) audit sound (store alone emptyQueue (0 ∷ 7 ∷ 9 ∷ []))
-    ∷ gives (lent alone (only (packet 4 1 2 0))) audit sound (store alone (only (packet 4 1 2 0)) (0 ∷ 7 ∷ 9 ∷ []))
+    ∷ gives (lent (set alone 8 1) (only (packet 4 1 2 0))) audit sound (store (set alone 8 1) (only (packet 4 1 2 0)) (0 ∷ 7 ∷ 9 ∷ []))
     ∷ gives (lent (set alone 7 2) emptyQueue) audit (broken 1) (store (set alone 7 2) emptyQueue (0 ∷ 7 ∷ 9 ∷ []))
     ∷ []
 
@@ -270,10 +280,11 @@ S1-entries =
 abbrev pub S2-entries : List Entry
 S2-entries =
     -- to a chain that misses a free cell, ends elsewhere, is a circle, goes on to a cell in use or past the cells,
-    findings 2 [] (tables (set held 1 0 ∷ set held 2 1 ∷ set held 8 2 ∷ set held 8 1 ∷ set held 8 3 ∷ []))
-    -- to a free cell's right word, root count and cell count
-    ++ findings 2 [] (tables (set held 9 5 ∷ set held 10 5 ∷ []))
-    ++ findings 2 (4 ∷ []) (tables (set held 11 5 ∷ []))
+    findings 2 [] (tables (set held 1 0 ∷ set held 2 1 ∷ set held 9 2 ∷ set held 9 1 ∷ set held 9 3 ∷ []))
+    -- to a free cell's right word, root count, cell count and name count
+    ++ findings 2 [] (tables (set held 10 5 ∷ set held 11 5 ∷ []))
+    ++ findings 2 (4 ∷ []) (tables (set held 12 5 ∷ []))
+    ++ findings 2 (3 ∷ []) (tables (set held 14 1 ∷ set held 14 65535 ∷ []))
 
 abbrev pub S3-entries : List Entry
 S3-entries =
@@ -283,8 +294,13 @@ S3-entries =
     ++ findings 3 [] (waiters (packet 0 0 0 0 ∷ packet 7 0 0 0 ∷ packet 1 0 0 0 ∷ packet 4 0 1 0 ∷ packet 5 0 1 0 ∷ packet 1 1 3 0 ∷ []))
     -- to a c that is not used and not 0, a number that is 0,
     ++ findings 3 [] (waiters (packet 1 1 0 1 ∷ packet 4 1 1 1 ∷ packet 5 1 1 1 ∷ packet 4 1 0 0 ∷ packet 5 1 0 0 ∷ []))
-    -- to a word that is a free cell, and to questions 6 and 9 of the replay
-    ++ findings 3 [] (waiters (packet 1 1 2 0 ∷ packet 5 1 2 0 ∷ packet 4 1 4095 0 ∷ []))
+    -- to a word that is a free cell, and to questions 6 and 9 of the replay,
+    ++ findings 3 [] (lent (set held 8 1) (only (packet 1 1 2 0)) ∷ waiters (packet 5 1 2 0 ∷ packet 4 1 4095 0 ∷ []))
+    -- to a name count, which S1 does not bound, without packets, with one, and with a full queue;
+    ++ findings 3 [] (tables (set held 8 1 ∷ set held 8 4096 ∷ set held 8 65535 ∷ []))
+    ++ findings 3 [] (lent held (only (packet 4 1 1 0)) ∷ lent (set held 8 2) (only (packet 4 1 1 0)) ∷ lent (set held 8 63) full ∷ lent (set held 8 65) full ∷ [])
+    -- or counting a cell once that a packet names twice
+    ++ findings 3 [] (lent (set (set pairs 4 1) 8 1) (only (packet 6 1 32770 1)) ∷ [])
 
 -- to a replaced field that does not hold a, a new cell that does not hold a and b, a cell count that is not the pointers
 abbrev pub S4-entries : List Entry
@@ -294,21 +310,43 @@ S4-entries =
 
 -- to a cell that only itself points to
 abbrev pub S5-entries : List Entry
-S5-entries = findings 5 [] (tables ((1 ∷ 0 ∷ 0 ∷ 1 ∷ 0 ∷ 0 ∷ 1 ∷ 1 ∷ []) ∷ []))
+S5-entries = findings 5 [] (tables ((1 ∷ 0 ∷ 0 ∷ 1 ∷ 0 ∷ 0 ∷ 1 ∷ 1 ∷ 0 ∷ []) ∷ []))
+
+-- Who is named (document 02, A6).
+abbrev pub named-entries : List Entry
+named-entries =
+    -- a cell counted once that a packet names twice: by a cons, by a replace;
+    gives (lent pairs emptyQueue) (row (cons 1 1)) (value 3)
+    (lent (3 ∷ 0 ∷ 0 ∷ 32769 ∷ 32770 ∷ 3 ∷ 0 ∷ 1 ∷ 2 ∷ 32771 ∷ 32772 ∷ 3 ∷ 0 ∷ 1 ∷ 0 ∷ 1 ∷ 1 ∷ 1 ∷ 0 ∷ 1 ∷ 1 ∷ 77 ∷ []) (only (packet 2 1 1 3)))
+    ∷ gives (lent pairs emptyQueue) (row (setRight 1 1)) (value 32770) (lent (namedSo (set pairs 4 1) 2 0) (only (packet 6 1 32770 1)))
+    -- the word read or detached not counted;
+    ∷ gives (lent ring emptyQueue) (row (car 1)) (value 2) (lent (namedSo ring 1 1) (only (packet 1 1 2 0)))
+    ∷ gives (lent ring emptyQueue) (row (setLeft 1 0)) (value 2) (lent (namedSo (set ring 3 0) 1 1) (only (packet 3 0 2 1)))
+    -- the number of an up or a down counted as a cell;
+    ∷ gives (lent pairs emptyQueue) (row (up 2 1)) (value 0) (lent (namedSo pairs 0 1) (only (packet 4 2 1 0)))
+    ∷ gives (lent pairs emptyQueue) (row (down 2 1)) (value 0) (lent (namedSo pairs 0 1) (only (packet 5 2 1 0)))
+    -- a name count left when the packet is taken, or lowered once for two places, or for another packet's;
+    ∷ gives (lent (namedSo (set pairs 4 1) 2 0) (only (packet 6 1 32770 1))) step (applied 6 0)
+    (store (set (set (set pairs 4 1) 5 2) 6 1) (at 1 0 emptyQueue) (0 ∷ 0 ∷ 0 ∷ []))
+    -- a root told by the root count alone: a cell freed, or found unreached, that only a waiting packet names
+    ∷ gives named-only step (applied 4 0)
+    (store (2 ∷ 0 ∷ 0 ∷ 0 ∷ 0 ∷ 0 ∷ 0 ∷ 1 ∷ 1 ∷ 0 ∷ 0 ∷ 2 ∷ 0 ∷ 1 ∷ 1 ∷ []) (putSlot emptyQueue 1 (packet 1 2 1 0) 1 1) (0 ∷ 0 ∷ []))
+    ∷ gives named-only audit sound named-only
+    ∷ []
 
 -- three free cells
 abbrev clear : List ℕ
-clear = 3 ∷ 1 ∷ 3 ∷ 2 ∷ 0 ∷ 0 ∷ 0 ∷ 0 ∷ 3 ∷ 0 ∷ 0 ∷ 0 ∷ 0 ∷ 0 ∷ 0 ∷ 0 ∷ 0 ∷ 0 ∷ 77 ∷ []
+clear = 3 ∷ 1 ∷ 3 ∷ 2 ∷ 0 ∷ 0 ∷ 0 ∷ 0 ∷ 0 ∷ 3 ∷ 0 ∷ 0 ∷ 0 ∷ 0 ∷ 0 ∷ 0 ∷ 0 ∷ 0 ∷ 0 ∷ 0 ∷ 0 ∷ 77 ∷ []
 
 -- Rule text (document 02, A4).
 abbrev pub text-entries : List Entry
 text-entries =
     -- pairs built first to last, or with their parts exchanged; a reader that gains no hold, or one of each cell; one that queues nothing
     gives (lent clear emptyQueue) (read (ascii "(1 2)")) (value 2)
-    (lent (3 ∷ 3 ∷ 3 ∷ 32770 ∷ 0 ∷ 1 ∷ 0 ∷ 1 ∷ 32769 ∷ 1 ∷ 1 ∷ 0 ∷ 1 ∷ 0 ∷ 0 ∷ 0 ∷ 0 ∷ 0 ∷ 77 ∷ []) (appended (only (packet 2 32770 0 1)) (packet 2 32769 1 2)))
+    (lent (3 ∷ 3 ∷ 3 ∷ 32770 ∷ 0 ∷ 1 ∷ 0 ∷ 1 ∷ 2 ∷ 32769 ∷ 1 ∷ 1 ∷ 0 ∷ 1 ∷ 1 ∷ 0 ∷ 0 ∷ 0 ∷ 0 ∷ 0 ∷ 0 ∷ 77 ∷ []) (appended (only (packet 2 32770 0 1)) (packet 2 32769 1 2)))
     -- what the second element needs built before what the first needs
     ∷ gives (lent clear emptyQueue) (read (ascii "((1) . (2))")) (value 3)
-    (lent (3 ∷ 0 ∷ 0 ∷ 32769 ∷ 0 ∷ 1 ∷ 0 ∷ 1 ∷ 32770 ∷ 0 ∷ 1 ∷ 0 ∷ 1 ∷ 1 ∷ 2 ∷ 1 ∷ 0 ∷ 1 ∷ 77 ∷ [])
+    (lent (3 ∷ 0 ∷ 0 ∷ 32769 ∷ 0 ∷ 1 ∷ 0 ∷ 1 ∷ 2 ∷ 32770 ∷ 0 ∷ 1 ∷ 0 ∷ 1 ∷ 2 ∷ 1 ∷ 2 ∷ 1 ∷ 0 ∷ 1 ∷ 1 ∷ 77 ∷ [])
     (appended (appended (only (packet 2 32769 0 1)) (packet 2 32770 0 2)) (packet 2 1 2 3)))
     -- a text without pairs refused for want of a slot or of a cell
     ∷ gives busy (read (ascii "7")) (value 32775) busy
@@ -366,21 +404,21 @@ abbrev pub unclipped-entries : List Entry
 unclipped-entries =
     -- an atom of value 4,094 refused, or 14 asked of a number;
     gives quiet (row (cons 36862 36862)) (value 2)
-    (lent (2 ∷ 0 ∷ 0 ∷ 0 ∷ 32775 ∷ 1 ∷ 0 ∷ 1 ∷ 36862 ∷ 36862 ∷ 1 ∷ 0 ∷ 1 ∷ 77 ∷ []) (only (packet 2 36862 36862 2)))
-    ∷ gives quiet (row (setLeft 1 36862)) (value 0) (lent (set held 3 36862) (only (packet 3 36862 0 1)))
-    ∷ gives quiet (row (setRight 1 36862)) (value 32775) (lent (set held 4 36862) (only (packet 6 36862 32775 1)))
+    (lent (2 ∷ 0 ∷ 0 ∷ 0 ∷ 32775 ∷ 1 ∷ 0 ∷ 1 ∷ 0 ∷ 36862 ∷ 36862 ∷ 1 ∷ 0 ∷ 1 ∷ 1 ∷ 77 ∷ []) (only (packet 2 36862 36862 2)))
+    ∷ gives quiet (row (setLeft 1 36862)) (value 0) (lent (namedSo (set held 3 36862) 1 0) (only (packet 3 36862 0 1)))
+    ∷ gives quiet (row (setRight 1 36862)) (value 32775) (lent (namedSo (set held 4 36862) 1 0) (only (packet 6 36862 32775 1)))
     ∷ gives quiet (read (ascii "4094")) (value 36862) quiet
-    ∷ gives quiet (read (ascii "(4094)")) (value 2) (lent (2 ∷ 0 ∷ 0 ∷ 0 ∷ 32775 ∷ 1 ∷ 0 ∷ 1 ∷ 36862 ∷ 0 ∷ 1 ∷ 0 ∷ 1 ∷ 77 ∷ []) (only (packet 2 36862 0 2)))
-    ∷ gives (lent ring emptyQueue) (row (down 1 4095)) (value 0) (lent ring (only (packet 5 1 4095 0)))
+    ∷ gives quiet (read (ascii "(4094)")) (value 2) (lent (2 ∷ 0 ∷ 0 ∷ 0 ∷ 32775 ∷ 1 ∷ 0 ∷ 1 ∷ 0 ∷ 36862 ∷ 0 ∷ 1 ∷ 0 ∷ 1 ∷ 1 ∷ 77 ∷ []) (only (packet 2 36862 0 2)))
+    ∷ gives (lent ring emptyQueue) (row (down 1 4095)) (value 0) (lent (namedSo ring 1 0) (only (packet 5 1 4095 0)))
     -- a store that already contains such atoms not sound, or another word than its own read, written, detached or freed
     ∷ gives (lent clipped emptyQueue) audit sound (store clipped emptyQueue (0 ∷ 0 ∷ 9 ∷ []))
-    ∷ gives (lent clipped emptyQueue) (row (car 1)) (value 36863) (lent clipped (only (packet 1 1 36863 0)))
-    ∷ gives (lent clipped emptyQueue) (row (cdr 1)) (value 65535) (lent clipped (only (packet 1 1 65535 0)))
+    ∷ gives (lent clipped emptyQueue) (row (car 1)) (value 36863) (lent (namedSo clipped 1 0) (only (packet 1 1 36863 0)))
+    ∷ gives (lent clipped emptyQueue) (row (cdr 1)) (value 65535) (lent (namedSo clipped 1 0) (only (packet 1 1 65535 0)))
     ∷ gives (lent clipped emptyQueue) (write 1 14) (text (ascii "(4095 . 32767)")) (lent clipped emptyQueue)
     ∷ gives quiet (write 36863 4) (text (ascii "4095")) quiet
-    ∷ gives (lent clipped emptyQueue) (row (setLeft 1 0)) (value 36863) (lent (set clipped 3 0) (only (packet 3 0 36863 1)))
-    ∷ gives (lent clipped (only (packet 5 1 1 0))) step (applied 5 1)
-    (store (2 ∷ 2 ∷ 1 ∷ 0 ∷ 0 ∷ 0 ∷ 0 ∷ 0 ∷ 1 ∷ 0 ∷ 0 ∷ 0 ∷ 0 ∷ 77 ∷ []) (at 1 0 emptyQueue) (0 ∷ 0 ∷ 9 ∷ []))
+    ∷ gives (lent clipped emptyQueue) (row (setLeft 1 0)) (value 36863) (lent (namedSo (set clipped 3 0) 1 0) (only (packet 3 0 36863 1)))
+    ∷ gives (lent (namedSo clipped 1 0) (only (packet 5 1 1 0))) step (applied 5 1)
+    (store (2 ∷ 2 ∷ 1 ∷ 0 ∷ 0 ∷ 0 ∷ 0 ∷ 0 ∷ 0 ∷ 1 ∷ 0 ∷ 0 ∷ 0 ∷ 0 ∷ 0 ∷ 77 ∷ []) (at 1 0 emptyQueue) (0 ∷ 0 ∷ 9 ∷ []))
     ∷ []
 
 pub record WrongAnswers : Type 0 where
@@ -400,6 +438,7 @@ pub record WrongAnswers : Type 0 where
   pub clipped : AllOnly clipped-entries
   pub clip-order : AllOnly clip-order-entries
   pub unclipped : AllOnly unclipped-entries
+  pub names : AllOnly named-entries
   pub freshes : AllOnly fresh-entries
   pub steps : AllOnly step-entries
   pub place-63 : AllOnly ring-entries

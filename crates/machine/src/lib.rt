@@ -95,6 +95,31 @@ impl CellCount {
     }
 }
 
+// How many times waiting packets name a cell.
+pub struct NameCount(pub u16);
+
+impl NameCount {
+    pub fn raised(self, n: u16) -> NameCount
+        ensures { λ r. ⌜ Raised (self .0) n (r .0) ⌝ }
+    {
+        let count = self.0;
+        if n <= 65535 - count {
+            return NameCount(count + n);
+        }
+        NameCount(count)
+    }
+
+    pub fn lowered(self, n: u16) -> NameCount
+        ensures { λ r. ⌜ r .0 ≡ self .0 - n ⌝ }
+    {
+        let count = self.0;
+        if n <= count {
+            return NameCount(count - n);
+        }
+        NameCount(0)
+    }
+}
+
 // The questions, by what a "no" says; specs/Answers.antt gives the paper's number of each.
 pub enum Refusal {
     StoreOutOfRange,

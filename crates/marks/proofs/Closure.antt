@@ -12,7 +12,6 @@ use borrow.Author.Tests.{eqb-true, eqb-false, eq-eqb, lt-ltb, ltb-true}
 use Rattle.machine.specs.Range.{tabulate}
 use Rattle.machine.specs.Words.{isCell}
 use Rattle.machine.specs.Table.{left, right, capacity, scratchWords, wordAt}
-use Rattle.machine.specs.Queue.{Packet}
 use Rattle.machine.specs.Reached.{isRoot, pointsTo, ReachedBy, begun, onward, spread, marks, reachedBy, reached}
 use Rattle.machine.proofs.Range.{tested, not-both, or-true, or-left, or-right}
 use Rattle.machine.proofs.Words.{cell-index, cell-number, index-cell}
@@ -184,10 +183,10 @@ unfolding reachedBy
 reached-same c f g edge e i = rw (starts-same c f g edge e c)
 
 -- from the pushed roots to the marks
-pub ready-marks : (t : List ℕ) (ps : List Packet) (s : List ℕ) (h : scratchWords (capacity t) ≤ length s) (s′ : List ℕ)
-    → Follows (capacity t) t (ready t ps s h .words) s′ → Marks t ps s s′
-ready-marks t ps s h s′ f = record { marks = marked; past = f .past ∙ ready-past t ps s h }
+pub ready-marks : (t : List ℕ) (s : List ℕ) (h : scratchWords (capacity t) ≤ length s) (s′ : List ℕ)
+    → Follows (capacity t) t (ready t s h .words) s′ → Marks t s s′
+ready-marks t s h s′ f = record { marks = marked; past = f .past ∙ ready-past t s h }
   where
-    marked : (i : ℕ) → i < capacity t → isMarked s′ i ≡ reached t ps i
+    marked : (i : ℕ) → i < capacity t → isMarked s′ i ≡ reached t i
     marked i l =
-        f .marks i l ∙ reached-same (capacity t) (met (ready t ps s h)) (isRoot t ps) (pointsTo t) (ready-roots t ps s h) i ∙ (unfold reached in refl)
+        f .marks i l ∙ reached-same (capacity t) (met (ready t s h)) (isRoot t) (pointsTo t) (ready-roots t s h) i ∙ (unfold reached in refl)

@@ -1,7 +1,6 @@
 -- Laws of marks and roots.
-pub mod Cells
 pub mod Scratch
-pub mod Names
+pub mod RootTests
 pub mod Stack
 pub mod RootMarks
 pub mod Closure

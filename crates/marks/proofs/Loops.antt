@@ -1,23 +1,19 @@
 -- What the functions of the marking do, and the steps of their loops.
-use mathlib.Core.Path.{_≡_, refl, sym, ap, _∙_}
+use mathlib.Core.Path.{_≡_, refl, ap, _∙_}
 use mathlib.Core.Bool.{Bool, true, false}
-use mathlib.Core.List.{List, [], _∷_, _++_}
-use Prim.Native.Nat.{ℕ, zero, suc, pred, _+_, _-_, _%_, _≤_, _<_}
+use mathlib.Core.List.{List}
+use Prim.Native.Nat.{ℕ, pred, _+_, _-_, _≤_, _<_}
 use native.Mathlib.Numerals.{add-one, sub-one}
-use lib.Dec.{ltb}
 use lib.ListN.{length, getD, set, drop}
 use borrow.Author.Tests.{eq-eqb, ne-eqb}
-use Rattle.machine.specs.declared.Queue.{Queue}
 use Rattle.machine.specs.Words.{isCell, mostCells}
-use Rattle.machine.specs.Table.{left, right, rootCount, capacity, tableLength, scratchWords, wordAt}
-use Rattle.machine.specs.Queue.{Packet, slots, slot, packetsFrom, waiting}
+use Rattle.machine.specs.Table.{left, right, capacity, tableLength, scratchWords, wordAt}
+use Rattle.machine.specs.Reached.{isRoot}
 use Rattle.machine.specs.Step.{cleared}
-use Rattle.machine.specs.Facts.{Lent}
-use Rattle.machine.proofs.Ring.{packets-snoc}
-use Rattle.marks.specs.Names.{threeNames}
+use Rattle.machine.specs.Facts.{TableShape}
 use Rattle.marks.specs.Marks.{Marks}
-use Rattle.marks.specs.Stack.{Stack, stack, unmet, pushed, pushedAll, pushedIfRooted, pushedRooted, pushedNamed, visited, Pushes, Visitable, Followable, Follows}
-use Rattle.marks.proofs.Cells.{bounds}
+use Rattle.marks.specs.Stack.{Stack, stack, unmet, pushed, pushedIfRooted, pushedRooted, visited, Pushes, Visitable, Followable, Follows}
+use Rattle.counts.proofs.Cells.{bounds}
 use Rattle.marks.proofs.RootMarks.{ready, ready-fresh}
 use Rattle.marks.proofs.Stack.{first, work, visitable}
 use Rattle.marks.proofs.Closure.{Following, following-visited, work-visited, past-visited, ready-marks}
@@ -33,10 +29,10 @@ module _ (c w : ℕ) (s : List ℕ) (top : ℕ) where
   push-none l h = record { same = unfold pushed unmet in rw h; below = l }
 
 module _ (t : List ℕ) (c i : ℕ) (st : Stack) where
-  pub if-rooted : ltb 0 (wordAt t i rootCount) ≡ true → (left : Stack) → Pushes c left (pushed c (i + 1) st) → Pushes c left (pushedIfRooted t c i st)
+  pub if-rooted : isRoot t i ≡ true → (left : Stack) → Pushes c left (pushed c (i + 1) st) → Pushes c left (pushedIfRooted t c i st)
   if-rooted h left p = record { same = p .same ∙ (unfold pushedIfRooted in rw (h, add-one i)); below = p .below }
 
-  pub unrooted : ltb 0 (wordAt t i rootCount) ≡ false → st .top ≤ c → Pushes c st (pushedIfRooted t c i st)
+  pub unrooted : isRoot t i ≡ false → st .top ≤ c → Pushes c st (pushedIfRooted t c i st)
   unrooted h l = record { same = unfold pushedIfRooted in rw h; below = l }
 
 pub rooted-none : (t : List ℕ) (c : ℕ) (st : Stack) → st .top ≤ c → Pushes c st (pushedRooted t c 0 st)
@@ -46,33 +42,6 @@ rooted-none t c st l = record { same = refl; below = l }
 pub rooted-more : (t : List ℕ) (c i : ℕ) (st u v : Stack) → Pushes c u (pushedRooted t c i st) → Pushes c v (pushedIfRooted t c i u)
     → Pushes c v (pushedRooted t c (i + 1) st)
 rooted-more t c i st u v p q = record { same = q .same ∙ ap (pushedIfRooted t c i) (p .same) ∙ (unfold pushedRooted in rw add-one); below = q .below }
-
-pub three-pushed : (c x y z : ℕ) (ws : List ℕ) → x ∷ y ∷ z ∷ [] ≡ ws → (st u v w : Stack)
-    → Pushes c u (pushed c x st) → Pushes c v (pushed c y u) → Pushes c w (pushed c z v) → Pushes c w (pushedAll c ws st)
-three-pushed c x y z ws e st u v w p q r =
-    record {
-      same = r .same ∙ ap (pushed c z) (q .same) ∙ ap (λ (a : Stack). pushed c z (pushed c y a)) (p .same) ∙ (unfold pushedAll in rw
-          (← e));
-      below = r .below;
-    }
-
-pushedNamed-snoc : (c : ℕ) (ps : List Packet) (p : Packet) (st : Stack) → pushedNamed c (ps ++ (p ∷ [])) st ≡ pushedAll c (threeNames p) (pushedNamed c ps st)
-unfolding pushedNamed
-pushedNamed-snoc c [] p st = refl
-pushedNamed-snoc c (r ∷ ps) p st = pushedNamed-snoc c ps p (pushedAll c (threeNames r) st)
-
-pub named-start : (c : ℕ) (q : Queue) (j : ℕ) (st : Stack) → st .top ≤ c → Pushes c st (pushedNamed c (packetsFrom q j 0) st)
-unfolding pushedNamed packetsFrom
-named-start c q j st l = record { same = refl; below = l }
-
-pub named-push : (c : ℕ) (q : Queue) (j n : ℕ) (st u v : Stack) → Pushes c u (pushedNamed c (packetsFrom q j n) st)
-    → Pushes c v (pushedAll c (threeNames (slot q ((j + n) % slots))) u) → Pushes c v (pushedNamed c (packetsFrom q j (n + 1)) st)
-named-push c q j n st u v p r = record {
-  same = r .same ∙ ap (pushedAll c (threeNames (slot q ((j + n) % slots)))) (p .same)
-      ∙ sym (pushedNamed-snoc c (packetsFrom q j n) (slot q ((j + n) % slots)) st)
-      ∙ ap (λ (ps : List Packet). pushedNamed c ps st) (sym (packets-snoc q j n) ∙ ap (packetsFrom q j) (sym (add-one n)));
-  below = r .below;
-}
 
 pub visit-is : (t : List ℕ) (c : ℕ) (s : List ℕ) (top x y : ℕ) (u v : Stack) → x ≡ wordAt t (top - 1) left → y ≡ wordAt t (top - 1) right
     → Pushes c u (pushed c x (stack (set s (top - 1) 1) (getD s (top - 1) 0 - 2))) → Pushes c v (pushed c y u) → Pushes c v (visited t c (stack s top))
@@ -94,25 +63,20 @@ module _ (c : ℕ) (start : ℕ → Bool) (t : List ℕ) (st : Stack) (h : Follo
     same-past = rw (p .same) (past-visited c start t st h (first c st (h .threaded) l))
 
 -- the pushes from a cleared scratch
-module _ (t : List ℕ) (q : Queue) (s : List ℕ) (h : Lent t q s) (c : ℕ) (cells : c ≡ capacity t) where
-  pub fits : (tableLength c ≤ length t) × (scratchWords c ≤ length s) × (c ≤ mostCells) × (q .place < slots) × (q .count ≤ slots)
-  fits =
-      let k = h .shape .table in
-      let o = h .shape .queue in
-      rw cells (k .room, h .scratch, k .most, o .place, o .count)
+module _ (t s : List ℕ) (k : TableShape t) (h : scratchWords (capacity t) ≤ length s) (c : ℕ) (cells : c ≡ capacity t) where
+  pub fits : (tableLength c ≤ length t) × (scratchWords c ≤ length s) × (c ≤ mostCells)
+  fits = rw cells (k .room, h, k .most)
 
   abbrev start : Stack
-  start = ready t (waiting q) s (h .scratch)
+  start = ready t s h
 
-  pub made-ready : (u v w : Stack) → u ≡ stack (cleared (scratchWords c) s) 0 → Pushes c v (pushedRooted t c c u)
-      → Pushes c w (pushedNamed c (waiting q) v) → w ≡ start
-  made-ready u v w e p r = r .same ∙ rw (p .same, e, cells)
+  pub made-ready : (u v : Stack) → u ≡ stack (cleared (scratchWords c) s) 0 → Pushes c v (pushedRooted t c c u) → v ≡ start
+  made-ready u v e p = p .same ∙ rw (e, cells)
 
-  pub ready-followable : (w : Stack) → w ≡ start → Followable c t w
-  ready-followable w e =
-      let f = ready-fresh t (waiting q) s (h .scratch) in
-      let k = h .shape .table in
+  pub ready-followable : (v : Stack) → v ≡ start → Followable c t v
+  ready-followable v e =
+      let f = ready-fresh t s h in
       rw (e, cells) (record { room = k .room; most = k .most; threaded = f .threaded; none = f .none })
 
-  pub marked : (w : Stack) → w ≡ start → (s′ : List ℕ) → Follows c t (w .words) s′ → Marks t (waiting q) s s′
-  marked w e s′ f = ready-marks t (waiting q) s (h .scratch) s′ (rw (e, cells) at f)
+  pub marked : (v : Stack) → v ≡ start → (s′ : List ℕ) → Follows c t (v .words) s′ → Marks t s s′
+  marked v e s′ f = ready-marks t s h s′ (rw (e, cells) at f)

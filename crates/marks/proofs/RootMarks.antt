@@ -2,7 +2,7 @@
 use mathlib.Core.Path.{_≡_, refl, sym, ap, _∙_}
 use mathlib.Core.Logic.{⊎-elim, _≢_}
 use mathlib.Core.Bool.{Bool, true, false, cond, _&&_, _||_, and-true, and-false, or-false, or-assoc}
-use mathlib.Core.List.{List, [], _∷_}
+use mathlib.Core.List.{List, []}
 use Prim.Native.Nat.{ℕ, zero, suc, pred, _+_, _≤_, _<_}
 use native.Mathlib.Omega.{arith}
 use lib.Dec.{ltb, eqb}
@@ -10,18 +10,14 @@ use lib.ListN.{length, getD, set, drop}
 use lib.Seq.{getD-set-same, getD-set-other}
 use borrow.Author.Tests.{eqb-true, eqb-false, eq-eqb, ne-eqb, lt-ltb, le-ltb}
 use Rattle.machine.specs.Words.{isCell}
-use Rattle.machine.specs.Table.{rootCount, capacity, scratchWords, wordAt}
-use Rattle.machine.specs.Queue.{Packet}
-use Rattle.machine.specs.Packets.{contains, names, isNamed}
+use Rattle.machine.specs.Table.{capacity, scratchWords}
 use Rattle.machine.specs.Reached.{isRoot}
 use Rattle.machine.specs.Step.{cleared}
 use Rattle.machine.proofs.Range.{tested, lt-or-ge, not-both, or-right}
 use Rattle.machine.proofs.Words.{index-cell}
 use Rattle.machine.proofs.Scratch.{length-cleared, cleared-zero, past-cleared}
-use Rattle.marks.specs.Names.{threeNames}
 use Rattle.marks.specs.Marks.{isMarked}
-use Rattle.marks.specs.Stack.{Stack, stack, unmet, pushed, pushedAll, pushedIfRooted, pushedRooted, pushedNamed, Threaded}
-use Rattle.marks.proofs.Names.{contains-three}
+use Rattle.marks.specs.Stack.{Stack, stack, unmet, pushed, pushedIfRooted, pushedRooted, Threaded}
 use Rattle.marks.proofs.Scratch.{cell-word, word-within}
 use Rattle.marks.proofs.Stack.{Unmet, push-cases, threaded-pushed, done-before, past-pushed}
 
@@ -97,56 +93,36 @@ pushed-then c f g st u v p q = record {
 pushed-as : (c : ℕ) (f g : ℕ → Bool) (st u : Stack) → ((i : ℕ) → i < c → f i ≡ g i) → Pushed c f st u → Pushed c g st u
 pushed-as c f g st u e p = record { fresh = p .fresh; past = p .past; marks = λ i l. p .marks i l ∙ ap (met st i ||_) (e i l) }
 
-all-pushed : (c : ℕ) (ws : List ℕ) (st : Stack) → Fresh c st → Pushed c (λ i. contains ws (suc i)) st (pushedAll c ws st)
-unfolding pushedAll contains
-all-pushed c [] st h = pushed-nothing c st h
-all-pushed c (w ∷ ws) st h =
-    let p = pushed-one c w st h in
-    pushed-then c (λ i. eqb w (suc i)) (λ i. contains ws (suc i)) st (pushed c w st) (pushedAll c ws (pushed c w st)) p (all-pushed c ws (pushed c w st) (p .fresh))
-
--- the cells that packets name
-named-pushed : (c : ℕ) (ps : List Packet) (st : Stack) → Fresh c st → Pushed c (λ i. isNamed ps (suc i)) st (pushedNamed c ps st)
-unfolding pushedNamed isNamed
-named-pushed c [] st h = pushed-nothing c st h
-named-pushed c (p ∷ ps) st h =
-    let u = pushedAll c (threeNames p) st in
-    let q = pushed-as c (λ i. contains (threeNames p) (suc i)) (λ i. contains (names p) (suc i)) st u (λ i l. contains-three p (suc i) (omega arith))
-    (all-pushed c (threeNames p) st h) in
-    pushed-then c (λ i. contains (names p) (suc i)) (λ i. isNamed ps (suc i)) st u (pushedNamed c ps u) q (named-pushed c ps u (q .fresh))
-
--- the cells whose root count is above 0
+-- the roots among the first n cells
 module _ (t : List ℕ) (c : ℕ) where
-  abbrev above : ℕ → Bool
-  above i = ltb 0 (wordAt t i rootCount)
-
-  if-pushed : (n : ℕ) (st : Stack) → Fresh c st → Pushed c (λ i. above n && eqb (suc n) (suc i)) st (pushedIfRooted t c n st)
+  if-pushed : (n : ℕ) (st : Stack) → Fresh c st → Pushed c (λ i. isRoot t n && eqb (suc n) (suc i)) st (pushedIfRooted t c n st)
   unfolding pushedIfRooted
-  if-pushed n st h = go (above n)
+  if-pushed n st h = go (isRoot t n)
     where
       go : (b : Bool) → Pushed c (λ i. b && eqb (suc n) (suc i)) st (cond b (pushed c (suc n) st) st)
       go true = pushed-one c (suc n) st h
       go false = pushed-nothing c st h
 
-  rooted-pushed : (n : ℕ) (st : Stack) → Fresh c st → Pushed c (λ i. ltb i n && above i) st (pushedRooted t c n st)
+  rooted-pushed : (n : ℕ) (st : Stack) → Fresh c st → Pushed c (λ i. ltb i n && isRoot t i) st (pushedRooted t c n st)
   unfolding pushedRooted
-  rooted-pushed zero st h = pushed-as c (λ _. false) (λ i. ltb i zero && above i) st st (λ i l. rw (le-ltb i zero (omega arith))) (pushed-nothing c st h)
+  rooted-pushed zero st h = pushed-as c (λ _. false) (λ i. ltb i zero && isRoot t i) st st (λ i l. rw (le-ltb i zero (omega arith))) (pushed-nothing c st h)
   rooted-pushed (suc n) st h =
       let p = rooted-pushed n st h in
       let u = pushedRooted t c n st in
-      pushed-as c (λ i. ltb i n && above i || (above n && eqb (suc n) (suc i))) (λ i. ltb i (suc n) && above i) st (pushedIfRooted t c n u) (λ i l. one i)
-      (pushed-then c (λ i. ltb i n && above i) (λ i. above n && eqb (suc n) (suc i)) st u (pushedIfRooted t c n u) p (if-pushed n u (p .fresh)))
+      pushed-as c (λ i. ltb i n && isRoot t i || (isRoot t n && eqb (suc n) (suc i))) (λ i. ltb i (suc n) && isRoot t i) st (pushedIfRooted t c n u) (λ i l. one i)
+      (pushed-then c (λ i. ltb i n && isRoot t i) (λ i. isRoot t n && eqb (suc n) (suc i)) st u (pushedIfRooted t c n u) p (if-pushed n u (p .fresh)))
     where
-      one : (i : ℕ) → ltb i n && above i || (above n && eqb (suc n) (suc i)) ≡ ltb i (suc n) && above i
+      one : (i : ℕ) → ltb i n && isRoot t i || (isRoot t n && eqb (suc n) (suc i)) ≡ ltb i (suc n) && isRoot t i
       one i = ⊎-elim below (λ m. ⊎-elim (λ e. here (eqb-true i n e)) (λ e. past m (eqb-false i n e)) (tested (eqb i n))) (lt-or-ge i n)
         where
-          below : i < n → ltb i n && above i || (above n && eqb (suc n) (suc i)) ≡ ltb i (suc n) && above i
-          below m = rw (lt-ltb i n m, lt-ltb i (suc n) (omega arith), ne-eqb (suc n) (suc i) (omega arith), and-false (above n)) (or-false (above i))
+          below : i < n → ltb i n && isRoot t i || (isRoot t n && eqb (suc n) (suc i)) ≡ ltb i (suc n) && isRoot t i
+          below m = rw (lt-ltb i n m, lt-ltb i (suc n) (omega arith), ne-eqb (suc n) (suc i) (omega arith), and-false (isRoot t n)) (or-false (isRoot t i))
 
-          here : i ≡ n → ltb i n && above i || (above n && eqb (suc n) (suc i)) ≡ ltb i (suc n) && above i
-          here e = rw (e, le-ltb n n (omega arith), lt-ltb n (suc n) (omega arith), eq-eqb (suc n) (suc n) refl) (and-true (above n))
+          here : i ≡ n → ltb i n && isRoot t i || (isRoot t n && eqb (suc n) (suc i)) ≡ ltb i (suc n) && isRoot t i
+          here e = rw (e, le-ltb n n (omega arith), lt-ltb n (suc n) (omega arith), eq-eqb (suc n) (suc n) refl) (and-true (isRoot t n))
 
-          past : n ≤ i → (i ≡ n → ⊥) → ltb i n && above i || (above n && eqb (suc n) (suc i)) ≡ ltb i (suc n) && above i
-          past m d = rw (le-ltb i n m, le-ltb i (suc n) (omega arith), ne-eqb (suc n) (suc i) (omega arith)) (and-false (above n))
+          past : n ≤ i → (i ≡ n → ⊥) → ltb i n && isRoot t i || (isRoot t n && eqb (suc n) (suc i)) ≡ ltb i (suc n) && isRoot t i
+          past m d = rw (le-ltb i n m, le-ltb i (suc n) (omega arith), ne-eqb (suc n) (suc i) (omega arith)) (and-false (isRoot t n))
 
 -- the cleared scratch
 cleared-word : (c : ℕ) (s : List ℕ) (i : ℕ) → i < c → getD (cleared (scratchWords c) s) i 0 ≡ 0
@@ -164,20 +140,17 @@ fresh-cleared c s h = record {
 }
 
 -- all roots pushed, from the cleared scratch
-module _ (t : List ℕ) (ps : List Packet) (s : List ℕ) (h : scratchWords (capacity t) ≤ length s) where
+module _ (t s : List ℕ) (h : scratchWords (capacity t) ≤ length s) where
   abbrev base : Stack
   base = stack (cleared (scratchWords (capacity t)) s) 0
 
   abbrev pub ready : Stack
-  ready = pushedNamed (capacity t) ps (pushedRooted t (capacity t) (capacity t) base)
+  ready = pushedRooted t (capacity t) (capacity t) base
 
-  roots-pushed : Pushed (capacity t) (isRoot t ps) base ready
-  unfolding isRoot
+  roots-pushed : Pushed (capacity t) (isRoot t) base ready
   roots-pushed =
       let c = capacity t in
-      let u = pushedRooted t c c base in
-      let p = pushed-as c (λ i. ltb i c && above t c i) (above t c) base u (λ i l. rw (lt-ltb i c l)) (rooted-pushed t c c base (fresh-cleared c s h)) in
-      pushed-then c (above t c) (λ i. isNamed ps (suc i)) base u (pushedNamed c ps u) p (named-pushed c ps u (p .fresh))
+      pushed-as c (λ i. ltb i c && isRoot t i) (isRoot t) base ready (λ i l. rw (lt-ltb i c l)) (rooted-pushed t c c base (fresh-cleared c s h))
 
   pub ready-fresh : Fresh (capacity t) ready
   ready-fresh = roots-pushed .fresh
@@ -185,6 +158,6 @@ module _ (t : List ℕ) (ps : List Packet) (s : List ℕ) (h : scratchWords (cap
   pub ready-past : drop (scratchWords (capacity t)) (ready .words) ≡ drop (scratchWords (capacity t)) s
   ready-past = roots-pushed .past ∙ past-cleared (scratchWords (capacity t)) s
 
-  pub ready-roots : (i : ℕ) → i < capacity t → met ready i ≡ isRoot t ps i
+  pub ready-roots : (i : ℕ) → i < capacity t → met ready i ≡ isRoot t i
   unfolding isMarked
   ready-roots i l = roots-pushed .marks i l ∙ rw (cleared-word (capacity t) s i l)

@@ -1,4 +1,3 @@
 -- Marks and roots, and what the functions that mark compute.
-pub mod Names
 pub mod Marks
 pub mod Stack

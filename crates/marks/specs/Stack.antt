@@ -4,14 +4,12 @@ use mathlib.Core.Path.{_≡_}
 use mathlib.Core.Bool.{Bool, true, false, cond, _&&_}
 use mathlib.Core.List.{List, [], _∷_}
 use Prim.Native.Nat.{ℕ, zero, suc, pred, _+_, _-_, _<_, _≤_}
-use lib.Dec.{ltb, eqb}
+use lib.Dec.{eqb}
 use lib.ListN.{length, getD, set, drop}
 use Rattle.machine.specs.Words.{isCell, mostCells}
-use Rattle.machine.specs.Table.{left, right, rootCount, tableLength, scratchWords, wordAt}
-use Rattle.machine.specs.Queue.{Packet}
+use Rattle.machine.specs.Table.{left, right, tableLength, scratchWords, wordAt}
 use Rattle.machine.specs.Packets.{contains}
-use Rattle.machine.specs.Reached.{pointsTo, reachedBy}
-use Rattle.marks.specs.Names.{threeNames}
+use Rattle.machine.specs.Reached.{isRoot, pointsTo, reachedBy}
 use Rattle.marks.specs.Marks.{isMarked}
 
 -- the scratch, and the first pending cell or 0
@@ -29,22 +27,13 @@ unmet c w s = isCell c w && eqb (getD s (pred w) 0) 0
 unfoldable pub pushed : ℕ → ℕ → Stack → Stack
 pushed c w st = cond (unmet c w (st .words)) (stack (set (st .words) (pred w) (st .top + 2)) w) st
 
-unfoldable pub pushedAll : ℕ → List ℕ → Stack → Stack
-pushedAll c [] st = st
-pushedAll c (w ∷ ws) st = pushedAll c ws (pushed c w st)
-
--- the cell at index i, if its root count is above 0; the first n cells
+-- the cell at index i, if it is a root; the first n cells
 unfoldable pub pushedIfRooted : List ℕ → ℕ → ℕ → Stack → Stack
-pushedIfRooted t c i st = cond (ltb 0 (wordAt t i rootCount)) (pushed c (suc i) st) st
+pushedIfRooted t c i st = cond (isRoot t i) (pushed c (suc i) st) st
 
 unfoldable pub pushedRooted : List ℕ → ℕ → ℕ → Stack → Stack
 pushedRooted t c zero st = st
 pushedRooted t c (suc n) st = pushedIfRooted t c n (pushedRooted t c n st)
-
--- the cells that packets name
-unfoldable pub pushedNamed : ℕ → List Packet → Stack → Stack
-pushedNamed c [] st = st
-pushedNamed c (p ∷ ps) st = pushedNamed c ps (pushedAll c (threeNames p) st)
 
 -- the first pending cell taken off and its fields followed
 unfoldable pub visited : List ℕ → ℕ → Stack → Stack

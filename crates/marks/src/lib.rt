@@ -3,15 +3,13 @@ mod pending;
 pub mod roots;
 
 use crate::pending::follow;
-use crate::pending::push_named;
 use crate::pending::push_rooted;
 ghost use mathlib.Core.Path.{_≡_};
 ghost use Prim.Native.Nat.{suc, _≤_};
 ghost use lib.ListN.{length};
-ghost use Rattle.machine.specs.Table.{scratchWords};
-ghost use Rattle.machine.specs.Queue.{queueOf, waiting};
+ghost use Rattle.machine.specs.Table.{capacity, scratchWords};
 ghost use Rattle.machine.specs.Step.{cleared};
-ghost use Rattle.machine.specs.Facts.{Lent};
+ghost use Rattle.machine.specs.Facts.{TableShape};
 ghost use Rattle.marks.specs.Marks.{isMarked, Marks};
 
 // The scratch of a table of c cells made 0.
@@ -27,24 +25,14 @@ pub fn clear(scratch: &mut [u16], c: u16)
     }
 }
 
-// Every reached cell marked, from a scratch that holds anything. The queue is lent as its arrays, with its place and count.
-pub fn mark<'q>(
-    table: &[u16],
-    kinds: &'q [u16; 64],
-    a: &'q [u16; 64],
-    b: &'q [u16; 64],
-    c: &'q [u16; 64],
-    place: u16,
-    count: u16,
-    scratch: &mut [u16],
-)
-    requires { ⌜ Lent (now table) (queueOf (now kinds) (now a) (now b) (now c) place count) (now scratch) ⌝ }
-    ensures { λ r. ⌜ Marks (now (table .entry)) (waiting (queueOf (now (kinds .entry)) (now (a .entry)) (now (b .entry)) (now (c .entry)) place count)) (now (scratch .entry)) (now (scratch .exit)) ⌝ }
+// Every reached cell marked, from a scratch that holds anything.
+pub fn mark(table: &[u16], scratch: &mut [u16])
+    requires { ⌜ TableShape (now table) × (scratchWords (capacity (now table)) ≤ length (now scratch)) ⌝ }
+    ensures { λ r. ⌜ Marks (now (table .entry)) (now (scratch .entry)) (now (scratch .exit)) ⌝ }
 {
     let capacity = cells::capacity_of(table);
     clear(scratch, capacity);
-    let first = push_rooted(table, scratch, capacity);
-    let top = push_named(kinds, a, b, c, place, count, scratch, capacity, first);
+    let top = push_rooted(table, scratch, capacity);
     follow(table, scratch, capacity, top);
 }
 

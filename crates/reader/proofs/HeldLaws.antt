@@ -19,12 +19,12 @@ use Rattle.notation.specs.Brackets.{mostOpen}
 use Rattle.machine.specs.declared.Queue.{Queue}
 use Rattle.machine.specs.declared.RowAnswer.{RowAnswer}
 use Rattle.machine.specs.Words.{firstAtom}
-use Rattle.machine.specs.Calls.{Store, store, row, cons}
+use Rattle.machine.specs.Calls.{Store, store, cons}
 use Rattle.machine.specs.Questions.{firstNo}
-use Rattle.machine.specs.Machine.{answered, accepted}
+use Rattle.machine.specs.Machine.{refusedOr}
 use Rattle.machine.specs.Answers.{rowReply}
 use Rattle.machine.specs.Texts.{built, builtPair, newWord}
-use Rattle.calls.specs.Called.{outcomeOf, RowCalled}
+use Rattle.calls.specs.Called.{codeAccepted, outcomeOf, RowCalled}
 use Rattle.calls.specs.Tests.{codeQuestions}
 use Rattle.reader.specs.Reading.{OpenList, reading, pairsBy, ended, closedFrom, readToken, readAll}
 use Rattle.reader.specs.Held.{mostWords, listsIn, readingIn, Fits, Closable, Room}
@@ -32,10 +32,10 @@ use Rattle.reader.specs.Builds.{codeCons, Leaves}
 
 -- no cons is lent scratch
 no-scratch : (t : List ℕ) (q : Queue) (x y : ℕ) → outcomeOf t q (cons x y) .after .scratch ≡ []
-unfolding outcomeOf answered accepted
+unfolding outcomeOf codeAccepted
 no-scratch t q x y = go (firstNo (codeQuestions t q (cons x y)))
   where
-    go : (n : ℕ) → answered n (store t q []) (row (cons x y)) .after .scratch ≡ []
+    go : (n : ℕ) → refusedOr n (store t q []) (codeAccepted t q (cons x y)) .after .scratch ≡ []
     go zero = refl
     go (suc n) = refl
 

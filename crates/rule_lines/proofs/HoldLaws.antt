@@ -61,10 +61,10 @@ one-step d p w h =
     (n .0, omega (arith, n .1, k .1))
 
 -- nil and atoms have no hold
-pub gives-nil : (w : ℕ) (t : List ℕ) (q : Queue) → w ≡ 0 → GivesUp w t q q
+pub gives-nil : (w : ℕ) (t : List ℕ) (q : Queue) → w ≡ 0 → GivesUp w t q t q
 gives-nil w t q e scratch idle h = rw e at h
 
-pub gives-atom : (w : ℕ) (t : List ℕ) (q : Queue) → firstAtom ≤ w → GivesUp w t q q
+pub gives-atom : (w : ℕ) (t : List ℕ) (q : Queue) → firstAtom ≤ w → GivesUp w t q t q
 unfolding isCell
 gives-atom w t q e scratch idle h = no-cell-holding h (rw (lt-leb w storeCells (omega arith)) (neither (leb 1 w)))
   where
@@ -73,8 +73,8 @@ gives-atom w t q e scratch idle h = no-cell-holding h (rw (lt-leb w storeCells (
     neither false = refl
 
 -- any other legal word is a cell
-pub gives-cell : {w : ℕ} {t : List ℕ} {q q′ : Queue} {r : Reply} → (w ≡ 0 → ⊥) → w < firstAtom → Promise (store t q []) (row (down w 1)) r (store t q′ [])
-    → GivesUp w t q q′
+pub gives-cell : {w : ℕ} {t t′ : List ℕ} {q q′ : Queue} {r : Reply} → (w ≡ 0 → ⊥) → w < firstAtom → Promise (store t q []) (row (down w 1)) r (store t′ q′ [])
+    → GivesUp w t q t′ q′
 gives-cell {w} n l p scratch idle h = down-holding h is idle p
   where
     no-atom : isAtom w ≡ false
@@ -94,8 +94,8 @@ gives-cell {w} n l p scratch idle h = down-holding h is idle p
     is = only (isCell storeCells w) (rw (no-nil, no-atom) at legal)
 
 -- steps, the hold given up, and steps again
-pub all-cleaned : {w : ℕ} {t : List ℕ} {q : Queue} {scratch t₁ : List ℕ} {q₁ : Queue} {scratch₁ : List ℕ} {q₂ : Queue} {t₃ : List ℕ} {q₃ : Queue} {scratch₃ : List ℕ}
-    → Drains t q scratch t₁ q₁ scratch₁ → GivesUp w t₁ q₁ q₂ → Drains t₁ q₂ scratch₁ t₃ q₃ scratch₃ → Cleans w t q scratch t₃ q₃ scratch₃
+pub all-cleaned : {w : ℕ} {t : List ℕ} {q : Queue} {scratch t₁ : List ℕ} {q₁ : Queue} {scratch₁ t₂ : List ℕ} {q₂ : Queue} {t₃ : List ℕ} {q₃ : Queue} {scratch₃ : List ℕ}
+    → Drains t q scratch t₁ q₁ scratch₁ → GivesUp w t₁ q₁ t₂ q₂ → Drains t₂ q₂ scratch₁ t₃ q₃ scratch₃ → Cleans w t q scratch t₃ q₃ scratch₃
 all-cleaned {w} {scratch₁ = scratch₁} a b c h =
     let x = a w h in
     let z = c 0 (b scratch₁ (x .1) (x .0)) in

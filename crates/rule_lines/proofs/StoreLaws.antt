@@ -145,15 +145,15 @@ module _ {w : ℕ} {t : List ℕ} {q : Queue} {scratch : List ℕ} (h : Holding 
         firstNo-zero (questions (store t q []) (row (down w 1)))
         (sound .shape, (e .0, (e .1 .0, (e .1 .1 .0, (six, (lt-ltb (q .count) slots slot, (nine, (ten, tt))))))))
 
-    pub down-holding : {r : Reply} {q′ : Queue} → Promise (store t q []) (row (down w 1)) r (store t q′ []) → Holding 0 t q′ scratch
+    pub down-holding : {r : Reply} {t′ : List ℕ} {q′ : Queue} → Promise (store t q []) (row (down w 1)) r (store t′ q′ []) → Holding 0 t′ q′ scratch
     unfolding moved gains gives accepted readsNil valueOf
-    down-holding {r} {q′} d =
-        let g = gives-machine (store t q []) (row (down w 1)) r (store t q′ []) (d .exact (decided (store t q []) (row (down w 1)) sound)) in
+    down-holding {r} {t′} {q′} d =
+        let g = gives-machine (store t q []) (row (down w 1)) r (store t′ q′ []) (d .exact (decided (store t q []) (row (down w 1)) sound)) in
         let e : r ≡ value 0 = g .0 ∙ ap (λ (o : Outcome). o .reply) (machine-accepted (store t q []) (row (down w 1)) asked) in
-        let a = promise-agrees (store t q []) (row (down w 1)) (value 0) (store t q′ []) only (rw e at d) holding-agrees in
+        let a = promise-agrees (store t q []) (row (down w 1)) (value 0) (store t′ q′ []) only (rw e at d) holding-agrees in
         record {
           whole = a .whole;
-          size = h .size;
+          size = d .bounded .sameCapacity ∙ h .size;
           lent = h .lent;
           legal = nil-legal;
           once = λ i l. omega (arith, a .roots i l, nil-unheld i);

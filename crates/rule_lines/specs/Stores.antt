@@ -60,8 +60,8 @@ abbrev pub Drains : List ℕ → Queue → List ℕ → List ℕ → Queue → L
 Drains t q scratch t′ q′ scratch′ = (w : ℕ) → Holding w t q scratch → Holding w t′ q′ scratch′ × (q′ .count ≡ 0)
 
 -- with nothing waiting the hold of w is given up
-abbrev pub GivesUp : ℕ → List ℕ → Queue → Queue → Type 0
-GivesUp w t q q′ = (scratch : List ℕ) → q .count ≡ 0 → Holding w t q scratch → Holding 0 t q′ scratch
+abbrev pub GivesUp : ℕ → List ℕ → Queue → List ℕ → Queue → Type 0
+GivesUp w t q t′ q′ = (scratch : List ℕ) → q .count ≡ 0 → Holding w t q scratch → Holding 0 t′ q′ scratch
 
 -- and the steps that follow leave the store clean
 abbrev pub Cleans : ℕ → List ℕ → Queue → List ℕ → List ℕ → Queue → List ℕ → Type 0

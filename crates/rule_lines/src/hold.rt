@@ -30,8 +30,8 @@ pub fn drain(table: &mut [u16], queue: Queue, scratch: &mut [u16]) -> Queue
 }
 
 // The hold of a cell is given up; nil and atoms have none.
-fn give_up(table: &[u16], queue: Queue, word: u16) -> Queue
-    ensures { λ r. ⌜ GivesUp word (now (table .entry)) queue r ⌝ }
+fn give_up(table: &mut [u16], queue: Queue, word: u16) -> Queue
+    ensures { λ r. ⌜ GivesUp word (now (table .entry)) queue (now (table .exit)) r ⌝ }
 {
     if word == 0 {
         return queue;

@@ -17,7 +17,7 @@ use Rattle.machine.specs.Queue.{Packet, packet, slots, putSlot, appended, waiti
 use Rattle.machine.specs.Packets.{kindOf, root, cell, plus, minus, changesOf, changes, movedBy, usesOf, uses, waitingChange}
 use Rattle.machine.specs.Counts.{heldAtLeast, pointers}
 use Rattle.machine.specs.Calls.{cons, row, value, Store, store, field, packetOf, readsNil, written, valueOf}
-use Rattle.machine.specs.Step.{Outcome, outcome}
+use Rattle.machine.specs.Step.{named, Outcome, outcome}
 use Rattle.machine.specs.Texts.{Built, built, builtPair, buildBy, atomsStorable, leaf, OpensOut, ends, opens}
 use Rattle.machine.specs.Questions.{firstNo, wordsLegal, wordsStorable, heldEnough, slotEmpty, cellFree, heldWithin, pointersWithin, earlyRow, early, askFree, late, lateRow, questions}
 use Rattle.machine.specs.Audit.{Sound}
@@ -27,6 +27,7 @@ use Rattle.machine.proofs.Range.{tested, or-left, or-right, and-both, and-first
 use Rattle.machine.proofs.Select.{select-length, selected-some}
 use Rattle.machine.proofs.Words.{cell-index, cell-number, index-cell}
 use Rattle.machine.proofs.Table.{not-in-use-free}
+use Rattle.machine.proofs.Names.{named-capacity}
 use Rattle.machine.proofs.Ring.{arrays-appended, waiting-appended}
 use Rattle.machine.proofs.Lists.{waiting-snoc}
 use Rattle.machine.proofs.Questions.{AllYes, firstNo-zero}
@@ -44,6 +45,7 @@ use Rattle.soundness.proofs.NewPacket.{HeldFor, Wrote, wrote-pointers}
 use Rattle.soundness.proofs.Cons.{withCell, same-capacity, new-left, new-right, other, was-free, new-used, same-use, keeps}
 use Rattle.soundness.proofs.RowWrites.{cons-case, cons-root, row-wrote, first-legal, second-legal}
 use Rattle.soundness.proofs.RowSound.{row-sound}
+use Rattle.soundness.proofs.NamedTable.{named-root, named-stands, named-pointers, named-free, named-opens}
 use Rattle.soundness.proofs.CodeTests.{pointers-counted, pointers-most}
 use Rattle.soundness.proofs.RaisedCells.{question9, question10}
 
@@ -126,8 +128,12 @@ module _ (s : Store) (x y : ℕ) (ws : List ℕ) (r : Ready (s .table) (s .queue
   abbrev p : Packet
   p = packetOf t (cons x y)
 
+  -- the cell is written, and then the packet's cells are named
   abbrev u : List ℕ
   u = written t (cons x y)
+
+  abbrev v : List ℕ
+  v = named plus u p
 
   abbrev new : ℕ
   new = firstFree t
@@ -142,9 +148,9 @@ module _ (s : Store) (x y : ℕ) (ws : List ℕ) (r : Ready (s .table) (s .queue
   unfolding occurrences
   waits i = refl
 
-  named : (i : ℕ) → uses p (suc i) ≡ matching x (suc i) 1 + matching y (suc i) 1
+  asks : (i : ℕ) → uses p (suc i) ≡ matching x (suc i) 1 + matching y (suc i) 1
   unfolding packetOf uses usesOf kindOf
-  named i = refl
+  asks i = refl
 
   legal-words : wordsLegal t (x ∷ y ∷ []) ≡ true
   unfolding wordsLegal everyOf
@@ -155,12 +161,12 @@ module _ (s : Store) (x y : ℕ) (ws : List ℕ) (r : Ready (s .table) (s .queue
   storable-words = first-two (mayBeStored y) (mayBeStored x) (everyOf ws mayBeStored) (r .storable)
 
   held : HeldFor t ps p
-  held i l = inr (omega (arith, r .held i l, waits i, named i))
+  held i l = inr (omega (arith, r .held i l, waits i, asks i))
 
   six : heldEnough t ps p ≡ true
   unfolding heldEnough heldAtLeast
   six = every-all (capacity t) (λ i. eqb (uses p (suc i)) 0 || heldAtLeast t ps i (uses p (suc i)))
-      (λ i l. or-right (eqb (uses p (suc i)) 0) (le-leb (waitingChange root minus (suc i) ps + uses p (suc i)) (wordAt t i rootCount + waitingChange root plus (suc i) ps) (omega (arith, r .held i l, waits i, named i))))
+      (λ i l. or-right (eqb (uses p (suc i)) 0) (le-leb (waitingChange root minus (suc i) ps + uses p (suc i)) (wordAt t i rootCount + waitingChange root plus (suc i) ps) (omega (arith, r .held i l, waits i, asks i))))
 
   early-yes : AllYes (earlyRow t (cons x y))
   unfolding earlyRow
@@ -195,7 +201,7 @@ module _ (s : Store) (x y : ℕ) (ws : List ℕ) (r : Ready (s .table) (s .queue
   cons-asked = firstNo-zero (questions s (row (cons x y)))
       (sound .shape, (legal-words, (storable-words, (six, (lt-ltb (q .count) slots slot, (free, (nine, (ten, tt))))))))
 
-  pub consed-is : consed s x y ≡ outcome (value new) (store u (appended q p) (s .scratch))
+  pub consed-is : consed s x y ≡ outcome (value new) (store v (appended q p) (s .scratch))
   unfolding consed readsNil valueOf
   consed-is = ap (λ (n : ℕ). refusedOr n s (acceptedRow s (cons x y))) cons-asked
 
@@ -225,16 +231,20 @@ module _ (s : Store) (x y : ℕ) (ws : List ℕ) (r : Ready (s .table) (s .queue
   wrote : Wrote t u p
   wrote = row-wrote t ps f (cons x y) early-yes held free-yes
 
-  same : capacity u ≡ capacity t
-  same = wrote .sameCapacity
+  written-same : capacity u ≡ capacity t
+  written-same = wrote .sameCapacity
+
+  same : capacity v ≡ capacity t
+  same = named-capacity plus u p ∙ written-same
 
   -- one hold of the new cell for one of each operand
   pub cons-gains : (i : ℕ) → i < capacity t
-      → wordAt u i rootCount + waitingChange root plus (suc i) (waiting (appended q p)) + waitingChange root minus (suc i) ps + (matching x (suc i) 1 + matching y (suc i) 1)
+      → wordAt v i rootCount + waitingChange root plus (suc i) (waiting (appended q p)) + waitingChange root minus (suc i) ps + (matching x (suc i) 1 + matching y (suc i) 1)
       ≡ wordAt t i rootCount + waitingChange root plus (suc i) ps + waitingChange root minus (suc i) (waiting (appended q p)) + matching new (suc i) 1
   cons-gains i l = rw after-waiting
       (omega (
         arith,
+        named-root plus u p i,
         rw is-new at (cons-root t ps f x y i free l),
         waiting-snoc root plus (suc i) ps p,
         waiting-snoc root minus (suc i) ps p,
@@ -249,11 +259,12 @@ module _ (s : Store) (x y : ℕ) (ws : List ℕ) (r : Ready (s .table) (s .queue
   unfolding occurrences
   goes-on i = refl
 
-  next-pointed : (i : ℕ) → i < capacity t → pointers u (suc i) + occurrences (suc i) (new ∷ ws) ≤ ceiling
+  next-pointed : (i : ℕ) → i < capacity t → pointers v (suc i) + occurrences (suc i) (new ∷ ws) ≤ ceiling
   next-pointed i l =
-      let m = wrote-pointers t u p wrote i in
+      rw (named-pointers plus u p (suc i))
+      (let m = wrote-pointers t u p wrote i in
       let o = goes-on i in
-      ⊎-elim (λ z. omega (arith, points i .0, points i .1, r .pointed i l, waits i)) (λ z. at-new z m o) (new-word i)
+      ⊎-elim (λ z. omega (arith, points i .0, points i .1, r .pointed i l, waits i)) (λ z. at-new z m o) (new-word i))
     where
       at-new : new ≡ suc i → pointers u (suc i) + moves cell minus p (suc i) ≡ pointers t (suc i) + moves cell plus p (suc i)
           → occurrences (suc i) (new ∷ ws) ≡ matching new (suc i) 1 + occurrences (suc i) ws
@@ -264,7 +275,7 @@ module _ (s : Store) (x y : ℕ) (ws : List ℕ) (r : Ready (s .table) (s .queue
           let g = new-unheld i l (rw k (w .3)) in
           omega (arith, g .0, g .1, points i .0, points i .1, waits i, matching-same new (suc i) 1 z)
 
-  next-legal : wordsLegal u (new ∷ ws) ≡ true
+  next-legal : wordsLegal v (new ∷ ws) ≡ true
   unfolding wordsLegal everyOf
   next-legal =
       let w = new-index in
@@ -277,7 +288,7 @@ module _ (s : Store) (x y : ℕ) (ws : List ℕ) (r : Ready (s .table) (s .queue
       let w = new-index in
       and-both (cell-storable new (omega (arith, w .1, w .2, f .most))) (past-two (mayBeStored y) (mayBeStored x) (everyOf ws mayBeStored) (r .storable))
 
-  pub cons-ready : Ready u (appended q p) (new ∷ ws)
+  pub cons-ready : Ready v (appended q p) (new ∷ ws)
   cons-ready = record {
     whole = record { sound = row-sound s (cons x y) (unfold readsNil in refl) sound (r .whole .arrays) cons-asked; arrays = arrays-appended q p (r .whole .arrays) };
     legal = next-legal;
@@ -286,20 +297,23 @@ module _ (s : Store) (x y : ℕ) (ws : List ℕ) (r : Ready (s .table) (s .queue
     pointed = rw same next-pointed;
   }
 
-  pub cons-stands : Stands t u
-  cons-stands = each-new (λ v w. Stands t v) (λ n rest c. record {
+  written-stands : Stands t u
+  written-stands = each-new (λ v w. Stands t v) (λ n rest c. record {
     sameCapacity = same-capacity t ps f n rest c x y;
     used = λ i l e. keeps t ps f n rest c x y i e;
     fields = λ i k l m e. other t ps f n rest c x y i k (omega arith) (λ (d : i ≡ n). not-both (rw d at e) (was-free t ps f n rest c x y));
   })
+
+  pub cons-stands : Stands t v
+  cons-stands = stands-trans t u v written-stands (named-stands plus u p)
 
   pub cons-count : appended q p .count ≡ q .count + 1
   unfolding appended putSlot
   cons-count = refl
 
   -- one cell less is free
-  pub cons-frees : freeCells u + 1 ≡ freeCells t
-  cons-frees = each-new (λ v w. freeCells v + 1 ≡ freeCells t) (λ n rest c.
+  written-frees : freeCells u + 1 ≡ freeCells t
+  written-frees = each-new (λ v w. freeCells v + 1 ≡ freeCells t) (λ n rest c.
       let v = withCell t n x y in
       let sums = total-at (capacity t) (λ i. cond (isFree v i) 1 0) (λ i. cond (isFree t i) 1 0) n (c .linked .1)
       (λ i l d. ap (λ (b : Bool). cond b 1 0) (free-same t v i (same-use t ps f n rest c x y i d))) in
@@ -308,6 +322,9 @@ module _ (s : Store) (x y : ℕ) (ws : List ℕ) (r : Ready (s .table) (s .queue
       rw (same-capacity t ps f n rest c x y)
       (omega (arith, select-length (capacity t) (isFree v), select-length (capacity t) (isFree t), rw (now, was) at sums)))
 
+  pub cons-frees : freeCells v + 1 ≡ freeCells t
+  cons-frees = rw (named-free plus u p) written-frees
+
   x-fit : Fit t x
   x-fit = waiting-fit t q x (y ∷ x ∷ ws) r (first-legal t x y legal-words) (λ i e. omega (arith, waits i, matching-same x (suc i) 1 e))
 
@@ -315,13 +332,13 @@ module _ (s : Store) (x y : ℕ) (ws : List ℕ) (r : Ready (s .table) (s .queue
   y-fit = waiting-fit t q y (y ∷ x ∷ ws) r (second-legal t x y legal-words) (λ i e. omega (arith, waits i, matching-same y (suc i) 1 e))
 
   -- the new cell is the pair of both
-  pub cons-opens : {a d : Tree} → OpensOut t x a → OpensOut t y d → OpensOut u new (pair a d)
+  pub cons-opens : {a d : Tree} → OpensOut t x a → OpensOut t y d → OpensOut v new (pair a d)
   unfolding field
-  cons-opens {a} {d} l m = rw is-new at (each-new (λ v w. OpensOut v x a → OpensOut v y d → OpensOut v w (pair a d)) (λ n rest c g h.
+  cons-opens {a} {d} l m = named-opens plus u p (rw is-new at (each-new (λ v w. OpensOut v x a → OpensOut v y d → OpensOut v w (pair a d)) (λ n rest c g h.
       let at : pred (suc n) ≡ n = omega arith in
       opens (suc n) {a = a} {d = d} (rw (same-capacity t ps f n rest c x y) (index-cell (capacity t) n (c .linked .1)))
       (rw (at, new-left t ps f n rest c x y) g) (rw (at, new-right t ps f n rest c x y) h))
-      (opens-kept t u ps f cons-stands x-fit l) (opens-kept t u ps f cons-stands y-fit m))
+      (opens-kept t u ps f written-stands x-fit l) (opens-kept t u ps f written-stands y-fit m)))
 
 -- what building a tree gives, beside words that wait
 pub record BuiltReady (s : Store) (ws : List ℕ) (tree : Tree) (b : Built) : Type 0 where
@@ -401,7 +418,7 @@ pair-ready s ws m n a d x y slot free =
       cons-asked o (a .word) (d .word) ws r room some,
       rw (consed-is o (a .word) (d .word) ws r room some) (record {
         ready = cons-ready o (a .word) (d .word) ws r room some;
-        stands = stands-trans (s .table) (o .table) (written (o .table) (cons (a .word) (d .word)))
+        stands = stands-trans (s .table) (o .table) (named plus (written (o .table) (cons (a .word) (d .word))) (packetOf (o .table) (cons (a .word) (d .word))))
             (stands-trans (s .table) t (o .table) (x .stands) (y .stands)) (cons-stands o (a .word) (d .word) ws r room some);
         opens = cons-opens o (a .word) (d .word) ws r room some kept (y .opens);
         count = omega (arith, cons-count o (a .word) (d .word) ws r room some, x .count, y .count);

@@ -10,10 +10,10 @@ use lib.ListN.{length, getD}
 use borrow.Author.Tests.{eqb-true, eqb-false, eq-eqb, lt-ltb}
 use Rattle.machine.specs.Range.{matching, occurrences, lastOf}
 use Rattle.machine.specs.Words.{isLegal, ceiling}
-use Rattle.machine.specs.Table.{stride, left, right, rootCount, cellCount, state, capacity, firstFree, lastFree, newCell, wordAt, putEnds, putCell, inUse, isFree}
+use Rattle.machine.specs.Table.{stride, left, right, rootCount, cellCount, state, nameCount, capacity, firstFree, lastFree, newCell, wordAt, putEnds, putCell, inUse, isFree}
 use Rattle.machine.specs.Queue.{Packet, packet}
 use Rattle.machine.specs.Packets.{kindOf, namesOf, names, usesOf, uses, isNamed}
-use Rattle.machine.specs.Reached.{isRoot, pointsTo, begun, Reached}
+use Rattle.machine.specs.Reached.{isRootByQueue, pointsTo, begun, ReachedByQueue}
 use Rattle.machine.specs.Audit.{replays, wordsOfKind, packetLegal}
 use Rattle.machine.specs.Facts.{Linked, Chain}
 use Rattle.machine.proofs.Range.{tested, or-left, and-both, not-both, matching-same, matching-other}
@@ -101,6 +101,12 @@ module _ (t : List ℕ) (ps : List Packet) (f : Facts t ps) (new : ℕ) (rest : 
   cons-roots = each-cell (λ i. i < capacity t → wordAt u i rootCount ≡ wordAt t i rootCount + matching (suc new) (suc i) 1)
       (λ _. omega (arith, new-root, free-zero t ps f new rootCount below was-free (omega arith) (omega arith), matching-same (suc new) (suc new) 1 refl))
       (λ i d _. omega (arith, other i rootCount (omega arith) d, matching-other (suc new) (suc i) 1 (λ e. d (omega arith))))
+
+  -- no packet names the new cell yet, as none named it while it was free
+  pub cons-names : (i : ℕ) → i < capacity t → wordAt u i nameCount ≡ wordAt t i nameCount
+  cons-names = each-cell (λ i. i < capacity t → wordAt u i nameCount ≡ wordAt t i nameCount)
+      (λ _. new-word nameCount (omega arith) ∙ sym (free-zero t ps f new nameCount below was-free (omega arith) (omega arith)))
+      (λ i d _. other i nameCount (omega arith) d)
 
   pub same-use : (i : ℕ) → i ≢ new → inUse u i ≡ inUse t i
   unfolding inUse
@@ -246,24 +252,24 @@ module _ (t : List ℕ) (ps : List Packet) (f : Facts t ps) (new : ℕ) (rest : 
     })
 
     pub cons-live : Live t ps → Live u (ps ++ (make ∷ []))
-    cons-live live i l = each-cell (λ j. j < capacity u → inUse u j ≡ true → Reached u (ps ++ (make ∷ [])) j) (λ m _. begun m new-is-root) old i l
+    cons-live live i l = each-cell (λ j. j < capacity u → inUse u j ≡ true → ReachedByQueue u (ps ++ (make ∷ [])) j) (λ m _. begun m new-is-root) old i l
       where
-        new-is-root : isRoot u (ps ++ (make ∷ [])) new ≡ true
-        new-is-root = unfold isRoot in or-left (isNamed (ps ++ (make ∷ [])) (suc new)) (lt-ltb 0 (wordAt u new rootCount) (omega (arith, new-root)))
+        new-is-root : isRootByQueue u (ps ++ (make ∷ [])) new ≡ true
+        new-is-root = unfold isRootByQueue in or-left (isNamed (ps ++ (make ∷ [])) (suc new)) (lt-ltb 0 (wordAt u new rootCount) (omega (arith, new-root)))
 
         stays : (j : ℕ) → 0 < wordAt t j rootCount → 0 < wordAt u j rootCount
         stays =
             each-cell (λ j. 0 < wordAt t j rootCount → 0 < wordAt u j rootCount) (λ _. omega (arith, new-root))
             (λ j d h. rw (other j rootCount (omega arith) d) h)
 
-        edges : (j k : ℕ) → Reached t ps j → k < capacity t → pointsTo t j k ≡ true → (pointsTo u j k ≡ true) ⊎ (isRoot u (ps ++ (make ∷ [])) k ≡ true)
+        edges : (j k : ℕ) → ReachedByQueue t ps j → k < capacity t → pointsTo t j k ≡ true → (pointsTo u j k ≡ true) ⊎ (isRootByQueue u (ps ++ (make ∷ [])) k ≡ true)
         edges j k r _ h =
             let e = reached-used t ps f r .1 in
             let w = points-cases t j k h in
             let low = w .1 in
             inl (points-by u j k (w .0) (w .1) (other j (w .0) (omega arith) (λ d. not-both (rw d at e) was-free) ∙ w .2))
 
-        old : (j : ℕ) → j ≢ new → j < capacity u → inUse u j ≡ true → Reached u (ps ++ (make ∷ [])) j
+        old : (j : ℕ) → j ≢ new → j < capacity u → inUse u j ≡ true → ReachedByQueue u (ps ++ (make ∷ [])) j
         old j d m e =
             reached-grows t u ps (ps ++ (make ∷ [])) same-capacity (λ k _. root-stays t u ps make k (stays k)) edges
             (live j (rw same-capacity at m) (sym (same-use j d) ∙ e))

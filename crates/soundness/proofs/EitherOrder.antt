@@ -6,9 +6,9 @@ use mathlib.Core.List.{List, [], _∷_}
 use Prim.Native.Nat.{ℕ}
 use native.Mathlib.Omega.{arith}
 use Rattle.machine.specs.Queue.{Packet}
-use Rattle.machine.specs.Packets.{Kind, reads, makes, replaces, raises, lowers, unknown, kindOf, Counter, root, cell, Direction, plus, minus, Change, rootDown, cellUp, changesOf, changes, movedBy, sameCounter}
+use Rattle.machine.specs.Packets.{Kind, reads, makes, replaces, raises, lowers, unknown, kindOf, Counter, root, cell, name, Direction, plus, minus, Change, rootDown, cellUp, changesOf, changes, movedBy, sameCounter}
 use Rattle.machine.specs.Calls.{Call, Store}
-use Rattle.machine.specs.Step.{moveCount, applyChanges, Outcome}
+use Rattle.machine.specs.Step.{moveCount, applyChanges, named, applyPacket, Outcome}
 use Rattle.machine.specs.Machine.{machine}
 use Rattle.machine.proofs.Commute.{exchange}
 use Rattle.soundness.specs.Demand3.{Link}
@@ -40,6 +40,8 @@ same-sum k d x p = go k d (kindOf (p .kind)) (p .a) (p .b)
     go root minus makes a b = omega arith
     go cell plus makes a b = omega arith
     go cell minus makes a b = omega arith
+    go name plus makes a b = refl
+    go name minus makes a b = refl
     go k d (replaces field) a b = refl
     go k d raises a b = refl
     go k d lowers a b = refl
@@ -73,7 +75,7 @@ links-same m n h s (call ∷ calls) =
     ∙ ap (λ (ls : List Link). record { call = call; scratch = s .scratch; reply = n s call .reply; after = n s call .after } ∷ ls) (links-same m n h (n s call .after) calls)
 
 column-alike : (s : Store) (call : Call) → machineOf inColumnOrder s call ≡ machine s call
-column-alike = alike (λ t p ps. applyChanges t (columnOrder p)) (λ t p ps. same-table t p)
+column-alike = alike (λ t p. named minus (applyChanges t (columnOrder p)) p) (λ t p. unfold applyPacket in ap (λ (u : List ℕ). named minus u p) (same-table t p))
 
 pub same-in-either-order : SameInEitherOrder
 same-in-either-order = record {

@@ -15,8 +15,8 @@ use Rattle.machine.specs.Table.{stride, left, right, rootCount, cellCount, stat
 use Rattle.machine.specs.Queue.{Packet, waiting}
 use Rattle.machine.specs.Packets.{isNamed}
 use Rattle.machine.specs.Counts.{pointers}
-use Rattle.machine.specs.Reached.{Reached, reached}
-use Rattle.machine.specs.Audit.{fieldSound, cellSound, cellsSound, otherSlotsZero, packetsLegal, replays, packetsSound, before, undoes, pointersSound, allReached, Sound}
+use Rattle.machine.specs.Reached.{ReachedByQueue, reached}
+use Rattle.machine.specs.Audit.{fieldSound, cellSound, cellsSound, otherSlotsZero, packetsLegal, replays, namesCounted, packetsSound, before, undoes, pointersSound, allReached, Sound}
 use Rattle.machine.specs.Facts.{TableShape, QueueShape, Linked, Chain}
 use Rattle.machine.proofs.Range.{tested, or-true, or-left, or-right, and-both, and-first, and-second, not-both, every-at, every-all}
 use Rattle.machine.proofs.Table.{free-not-in-use, not-in-use-free}
@@ -24,11 +24,12 @@ use Rattle.machine.proofs.Lists.{Indices}
 use Rattle.machine.proofs.Chain.{linked-indices, chain-is}
 use Rattle.machine.proofs.Reached.{reached-is}
 use Rattle.machine.proofs.Questions.{shape-is, shape-test}
+use Rattle.machine.proofs.RootsByCell.{Counted, counted-test, sound-counted, by-queue, by-cell}
 use Rattle.soundness.proofs.Views.{shown, seen, seen-same, earlier, All, WrittenBelow, all-map, StagesOf, pointers-seen}
 use Rattle.soundness.proofs.LegalPackets.{Fit, field-fit, fit-field, LegalPacket, packets-legal, legal-packets, legal-below, named-fit}
 use Rattle.soundness.proofs.Stages.{before-shown, before-capacity, undoes-stages, stages-undoes}
 
--- what S1 to S4 say of a table with the packets ps waiting
+-- what S1 to S4 say of a table with the packets ps waiting, but for its name counts (RootsByCell.Counted)
 pub record Facts (t : List ℕ) (ps : List Packet) : Type 0 where
   pub some : 1 ≤ capacity t
   pub most : capacity t ≤ mostCells
@@ -44,9 +45,9 @@ pub record Facts (t : List ℕ) (ps : List Packet) : Type 0 where
   pub stages : StagesOf (capacity t) (shown t) ps
   pub counts : (i : ℕ) → i < capacity t → wordAt t i cellCount ≡ seen (capacity t) (earlier (shown t) ps) (suc i)
 
--- S5
+-- S5, by the queue: a call writes fields before it names its packet's cells
 abbrev pub Live : List ℕ → List Packet → Type 0
-Live t ps = (i : ℕ) → i < capacity t → inUse t i ≡ true → Reached t ps i
+Live t ps = (i : ℕ) → i < capacity t → inUse t i ≡ true → ReachedByQueue t ps i
 
 -- S1 at one cell
 record CellFacts (t : List ℕ) (i : ℕ) : Type 0 where
@@ -109,7 +110,7 @@ module _ (t : List ℕ) (q : Queue) (s : Sound t q) where
 
   packet-tests : slots-zero && all-legal && all-replay ≡ true
   unfolding packetsSound
-  packet-tests = s .packets
+  packet-tests = and-first (slots-zero && all-legal && all-replay) (namesCounted t (waiting q)) (s .packets)
 
   sound-slots : otherSlotsZero q ≡ true
   sound-slots = and-first slots-zero all-legal (and-first (slots-zero && all-legal) all-replay packet-tests)
@@ -154,9 +155,9 @@ module _ (t : List ℕ) (q : Queue) (s : Sound t q) where
   pub sound-live : Live t (waiting q)
   unfolding allReached
   sound-live i l u =
-      reached-is t (waiting q) i .0
+      by-queue t (waiting q) (sound-counted t q s) (reached-is t i .0
       (⊎-elim (λ e. absurd (not-both u (free-not-in-use t i e))) (λ e. e)
-      (or-true (isFree t i) (reached t (waiting q) i) (every-at (capacity t) (λ j. isFree t j || reached t (waiting q) j) (s .live) i l)))
+      (or-true (isFree t i) (reached t i) (every-at (capacity t) (λ j. isFree t j || reached t j) (s .live) i l))))
 
 -- the ends lie within the cells
 last-below : (c : ℕ) (is : List ℕ) → Indices c is → lastOf (map suc is) ≤ c
@@ -184,9 +185,9 @@ pub slots-of : (t : List ℕ) (q : Queue) → Sound t q → Slots q
 slots-of t q s =
     record { shape = shape-is t q (s .shape) .queue; others = sound-slots t q s }
 
-pub facts-sound : (t : List ℕ) (q : Queue) → Slots q → Facts t (waiting q) → Live t (waiting q) → Sound t q
+pub facts-sound : (t : List ℕ) (q : Queue) → Slots q → Facts t (waiting q) → Counted t (waiting q) → Live t (waiting q) → Sound t q
 unfolding cellsSound packetsSound pointersSound allReached
-facts-sound t q n f l = record {
+facts-sound t q n f d l = record {
   shape = shape-test t q (record {
     table = record {
       some = f .some;
@@ -200,8 +201,8 @@ facts-sound t q n f l = record {
   cells = every-all (capacity t) (cellSound t)
       (λ i m. facts-cell t i (record { state = f .states i m; roots = f .roots i m; cells = f .cells i m; fields = λ k. f .fields i k m }));
   chain = chain-is t .1 (f .free, f .chain);
-  packets = and-both (and-both (n .others) (legal-packets t (waiting q) (f .legal)))
-      (every-all (capacity t) (λ i. replays (suc i) (wordAt t i rootCount) (waiting q)) (f .replay));
+  packets = and-both (and-both (and-both (n .others) (legal-packets t (waiting q) (f .legal)))
+      (every-all (capacity t) (λ i. replays (suc i) (wordAt t i rootCount) (waiting q)) (f .replay))) (counted-test t (waiting q) d);
   pointed = and-both (stages-undoes t (f .room) (waiting q) (f .legal) (f .stages))
       (every-all (capacity t) (λ j. eqb (wordAt t j cellCount) (pointers (before t (waiting q)) (suc j)))
       (λ i m. eq-eqb (wordAt t i cellCount) (pointers (before t (waiting q)) (suc i))
@@ -209,8 +210,8 @@ facts-sound t q n f l = record {
       ∙ sym (seen-same (capacity t) (shown (before t (waiting q))) (earlier (shown t) (waiting q)) (suc i) (before-shown t (f .room) (waiting q) (f .legal)))
       ∙ sym (ap (λ (c : ℕ). seen c (shown (before t (waiting q))) (suc i)) (before-capacity t (f .room) (waiting q) (f .legal)))
       ∙ sym (pointers-seen (before t (waiting q)) i))));
-  live = every-all (capacity t) (λ i. isFree t i || reached t (waiting q) i) (λ i m.
-      ⊎-elim (λ u. or-right (isFree t i) (reached-is t (waiting q) i .1 (l i m u))) (λ u. or-left (reached t (waiting q) i) (not-in-use-free t i u))
+  live = every-all (capacity t) (λ i. isFree t i || reached t i) (λ i m.
+      ⊎-elim (λ u. or-right (isFree t i) (reached-is t i .1 (by-cell t (waiting q) d (l i m u)))) (λ u. or-left (reached t i) (not-in-use-free t i u))
       (tested (inUse t i)));
 }
 

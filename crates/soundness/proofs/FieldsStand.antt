@@ -12,10 +12,10 @@ use Rattle.machine.specs.Range.{matching}
 use Rattle.machine.specs.Words.{isNil, isCell}
 use Rattle.machine.specs.Table.{left, right, capacity, wordAt, putWord}
 use Rattle.machine.specs.Queue.{Packet, waiting}
-use Rattle.machine.specs.Packets.{kindOf, usesOf, uses, changes}
+use Rattle.machine.specs.Packets.{kindOf, plus, usesOf, uses}
 use Rattle.machine.specs.Calls.{Call, fresh, row, step, audit, read, write, RowCall, car, cdr, cons, setLeft, setRight, up, down}
 use Rattle.machine.specs.Calls.{Reply, refused, Store, store, field, packetOf, readsNil, written, wordRead, valueOf, freshTable}
-use Rattle.machine.specs.Step.{applyChanges, stepWith, stepFrom, stepped}
+use Rattle.machine.specs.Step.{applyPacket, stepWith, stepFrom, stepped}
 use Rattle.machine.specs.Questions.{firstNo, xIsCell, earlyRow, askFree, questions}
 use Rattle.machine.specs.Audit.{audited}
 use Rattle.machine.specs.Facts.{Chain}
@@ -25,6 +25,7 @@ use Rattle.machine.proofs.Range.{not-both, matching-same}
 use Rattle.machine.proofs.Words.{cell-index, cell-number}
 use Rattle.machine.proofs.Table.{Inside, room, word-same, word-other, capacity-putWord}
 use Rattle.machine.proofs.Kept.{machine-cases, gives-machine}
+use Rattle.machine.proofs.RootsByCell.{Counted, sound-counted}
 use Rattle.machine.proofs.NilReads.{nil-cases, read-cell, row-cases}
 use Rattle.soundness.specs.Demand3.{Link, Joined, Begun, tableAfter, answers}
 use Rattle.soundness.specs.Reliable.{Fields, fields, puts, put, fieldsFrom, fieldsAfter, FieldsStand, RepliesField, NoTextRead}
@@ -37,7 +38,9 @@ use Rattle.soundness.proofs.FreshSound.{fresh-unused}
 use Rattle.soundness.proofs.RowQuestions.{RowYes, row-yes}
 use Rattle.soundness.proofs.Cons.{withCell, same-capacity, new-left, new-right, other, same-use}
 use Rattle.soundness.proofs.RowWrites.{cons-case}
-use Rattle.soundness.proofs.OldestPacket.{applied-capacity, applied-use, applied-fields, applied-facts}
+use Rattle.soundness.proofs.OldestPacket.{applied-fields}
+use Rattle.soundness.proofs.NameCounts.{packet-capacity, packet-word, packet-use, packet-facts, packet-counted}
+use Rattle.soundness.proofs.NamedTable.{named-told}
 use Rattle.soundness.proofs.FreedCells.{swept-capacity, swept-fields}
 use Rattle.soundness.proofs.StepSound.{stepTable}
 use Rattle.soundness.proofs.CallSound.{fresh-yes, fresh-whole, decided, promise-whole, value-accepted}
@@ -136,22 +139,24 @@ module _ (t : List ℕ) (q : Queue) (f : Facts t (waiting q)) (g : ℕ → Field
   row-replies (down x n) a = tt
 
 -- a step changes counts, and fields of the cells that it frees
-step-put : (t : List ℕ) (p : Packet) (ps : List Packet) → Facts t (p ∷ ps) → (g : ℕ → Fields) → FieldsStand t g → FieldsStand (stepTable t p ps) g
-step-put t p ps f g h i l u =
-    let v = applyChanges t (changes p) in
-    let e = applied-facts t p ps f in
-    let m : i < capacity v = rw (swept-capacity v ps e) at l in
-    let w = swept-fields v ps e i m u in
-    let s = h i (rw (applied-capacity t p ps f) at m) (sym (applied-use t p ps f i) ∙ w .0) in (
-      w .1 left (omega arith) ∙ applied-fields t p ps f i left (omega arith) ∙ s .0,
-      w .1 right (omega arith) ∙ applied-fields t p ps f i right (omega arith) ∙ s .1,
+step-put : (t : List ℕ) (p : Packet) (ps : List Packet) → Facts t (p ∷ ps) → Counted t (p ∷ ps) → (g : ℕ → Fields) → FieldsStand t g → FieldsStand (stepTable t p) g
+step-put t p ps f d g h i l u =
+    let v = applyPacket t p in
+    let e = packet-facts t p ps f in
+    let n = packet-counted t p ps f d in
+    let m : i < capacity v = rw (swept-capacity v ps e n) at l in
+    let w = swept-fields v ps e n i m u in
+    let s = h i (rw (packet-capacity t p ps f) at m) (sym (packet-use t p ps f i) ∙ w .0) in (
+      w .1 left (omega arith) ∙ packet-word t p ps f i left (omega arith) (omega arith) ∙ applied-fields t p ps f i left (omega arith) ∙ s .0,
+      w .1 right (omega arith) ∙ packet-word t p ps f i right (omega arith) (omega arith) ∙ applied-fields t p ps f i right (omega arith) ∙ s .1,
     )
 
 pub stepped-put : (s : Store) (g : ℕ → Fields) → Whole (s .table) (s .queue) → FieldsStand (s .table) g → (ps : List Packet) → waiting (s .queue) ≡ ps
     → FieldsStand (stepFrom s ps .after .table) g
 unfolding stepFrom stepWith
 stepped-put s g w h [] e = h
-stepped-put s g w h (p ∷ ps) e = step-put (s .table) p ps (rw e at (sound-facts (s .table) (s .queue) (w .sound))) g h
+stepped-put s g w h (p ∷ ps) e =
+    step-put (s .table) p ps (rw e at (sound-facts (s .table) (s .queue) (w .sound))) (rw e at (sound-counted (s .table) (s .queue) (w .sound))) g h
 
 pub fresh-put : (s : Store) (c : ℕ) (g : ℕ → Fields) → firstNo (questions s (fresh c)) ≡ 0 → FieldsStand (freshTable c (s .table)) g
 fresh-put s c g e i l u = absurd (not-both u (fresh-unused c (s .table) (fresh-yes s c e .room) i l))
@@ -175,7 +180,8 @@ unfolding put accepted stepped audited
 accepted-put s (fresh c) g w h m e = fresh-put s c g e
 accepted-put s (row r) g w h m e =
     row-cases s r (λ o. FieldsStand (o .after .table) (λ c. put c (row r) (o .reply) (g c))) (λ n. nil-put (s .table) r n g h)
-    (λ n. row-put (s .table) (s .queue) (sound-facts (s .table) (s .queue) (w .sound)) g h r (row-yes s r n (w .arrays) e))
+    (λ n. named-told plus (written (s .table) r) (packetOf (s .table) r) (λ c. puts r (valueOf (s .table) r) c (g c))
+    (row-put (s .table) (s .queue) (sound-facts (s .table) (s .queue) (w .sound)) g h r (row-yes s r n (w .arrays) e)))
 accepted-put s step g w h m e = stepped-put s g w h (waiting (s .queue)) refl
 accepted-put s audit g w h n e = h
 accepted-put s (read text) g w h n e = absurd (n text refl)

@@ -9,10 +9,10 @@ use native.Mathlib.Omega.{arith}
 use lib.Dec.{ltb, eqb}
 use borrow.Author.Tests.{ltb-false, le-ltb, eqb-true, eqb-false}
 use Rattle.machine.specs.Range.{total, select, matching, occurrences, lastOf}
-use Rattle.machine.specs.Table.{stride, left, right, rootCount, cellCount, state, capacity, firstFree, lastFree, wordAt, inUse, isFree}
+use Rattle.machine.specs.Table.{stride, left, right, rootCount, cellCount, state, nameCount, capacity, firstFree, lastFree, wordAt, inUse, isFree}
 use Rattle.machine.specs.Queue.{Packet}
-use Rattle.machine.specs.Packets.{names, contains, isNamed}
-use Rattle.machine.specs.Reached.{isRoot, pointsTo, begun, onward, Reached, reached}
+use Rattle.machine.specs.Packets.{names, contains, isNamed, timesNamed}
+use Rattle.machine.specs.Reached.{isRootByQueue, pointsTo, begun, onward, ReachedByQueue, reached}
 use Rattle.machine.specs.Step.{unreached, swept}
 use Rattle.machine.specs.Audit.{packetLegal}
 use Rattle.machine.specs.Facts.{Linked, Chain, pointersOut, Sweep}
@@ -21,6 +21,7 @@ use Rattle.machine.proofs.Table.{free-not-in-use}
 use Rattle.machine.proofs.Lists.{at-most-one, last-occurs, Indices, none-past}
 use Rattle.machine.proofs.Chain.{linked-indices}
 use Rattle.machine.proofs.Reached.{reached-is}
+use Rattle.machine.proofs.RootsByCell.{Counted, by-queue, by-cell}
 use Rattle.machine.proofs.Select.{select-indices, select-once, dead-is}
 use Rattle.machine.proofs.Sweep.{sweeps}
 use Rattle.soundness.proofs.Views.{nil-no-cell, View, shown, entries, seen, seen-same, seen-none, Same, All, all-map, earlier, earlier-same, earlier-entry, stages-same}
@@ -28,6 +29,7 @@ use Rattle.soundness.proofs.LegalPackets.{Fit, fit-nil, LegalPacket, Wr
 use Rattle.soundness.proofs.Stages.{shown-used, shown-free}
 use Rattle.soundness.proofs.Facts.{Facts, Live, last-within, free-zero, all-below}
 use Rattle.soundness.proofs.FreeChain.{chain-free}
+use Rattle.soundness.proofs.NameCounts.{none-named}
 use Rattle.soundness.proofs.ReachedCells.{points-by, points-cases, reached-used, reached-grows}
 use Rattle.soundness.proofs.Masks.{mask, masked, unmasked, WritesShown, mask-earlier, unwritten-earlier, seen-split, mask-stages}
 
@@ -49,18 +51,18 @@ out-select t (suc n) d x = out-append t (select n d) (cond (d n) (n ∷ []) []) 
     last true = omega arith
     last false = refl
 
-module _ (t : List ℕ) (ps : List Packet) (f : Facts t ps) where
+module _ (t : List ℕ) (ps : List Packet) (f : Facts t ps) (n : Counted t ps) where
   abbrev c : ℕ
   c = capacity t
 
   abbrev live : ℕ → Bool
-  live = reached t ps
+  live = reached t
 
   abbrev doomed : ℕ → Bool
   doomed i = inUse t i && not (live i)
 
   abbrev dead : List ℕ
-  dead = unreached t ps
+  dead = unreached t
 
   abbrev u : List ℕ
   u = swept t dead
@@ -72,27 +74,27 @@ module _ (t : List ℕ) (ps : List Packet) (f : Facts t ps) where
   sweep : Sweep t dead u
   sweep = sweeps t dead (f .room) dead-below (last-within t (f .free) (f .chain))
 
-  live-reached : (i : ℕ) → live i ≡ true → Reached t ps i
-  live-reached i h = reached-is t ps i .0 h
+  live-reached : (i : ℕ) → live i ≡ true → ReachedByQueue t ps i
+  live-reached i h = by-queue t ps n (reached-is t i .0 h)
 
-  reached-live : {i : ℕ} → Reached t ps i → live i ≡ true
-  reached-live {i} r = reached-is t ps i .1 r
+  reached-live : {i : ℕ} → ReachedByQueue t ps i → live i ≡ true
+  reached-live {i} r = reached-is t i .1 (by-cell t ps n r)
 
   live-used : (i : ℕ) → live i ≡ true → inUse t i ≡ true
   live-used i h = reached-used t ps f (live-reached i h) .1
 
   -- which cells are dead
   is-dead : (i : ℕ) → i < c → inUse t i ≡ true → live i ≡ false → contains dead i ≡ true
-  is-dead i l h e = dead-is t ps .members i .1 (l, h, λ r. not-both (reached-live r) e)
+  is-dead i l h e = dead-is t .members i .1 (l, h, λ r. not-both (reached-is t i .1 r) e)
 
   not-dead : (i : ℕ) → (contains dead i ≡ true → ⊥) → contains dead i ≡ false
   not-dead i h = ⊎-elim (λ e. absurd (h e)) (λ e. e) (tested (contains dead i))
 
   live-not-dead : (i : ℕ) → live i ≡ true → contains dead i ≡ false
-  live-not-dead i h = not-dead i (λ e. dead-is t ps .members i .0 e .2 (live-reached i h))
+  live-not-dead i h = not-dead i (λ e. dead-is t .members i .0 e .2 (reached-is t i .0 h))
 
   free-not-dead : (i : ℕ) → inUse t i ≡ false → contains dead i ≡ false
-  free-not-dead i h = not-dead i (λ e. not-both (dead-is t ps .members i .0 e .1) h)
+  free-not-dead i h = not-dead i (λ e. not-both (dead-is t .members i .0 e .1) h)
 
   -- the end of the chain is free
   not-end : (i : ℕ) → i < c → inUse t i ≡ true → suc i ≢ lastFree t
@@ -113,7 +115,7 @@ module _ (t : List ℕ) (ps : List Packet) (f : Facts t ps) where
   swept-capacity = sweep .sameCapacity
 
   -- afterwards the cells in use are those that were reached
-  pub swept-use : (i : ℕ) → i < c → inUse u i ≡ reached t ps i
+  pub swept-use : (i : ℕ) → i < c → inUse u i ≡ reached t i
   unfolding inUse
   swept-use = each-sort (λ i. i < c → ltb 0 (wordAt u i state) ≡ live i)
       (λ i h l. ap (ltb 0) (live-words i state l (omega arith) (omega arith) h) ∙ live-used i h ∙ sym h)
@@ -129,7 +131,7 @@ module _ (t : List ℕ) (ps : List Packet) (f : Facts t ps) where
 
   -- no root count changes: a dead cell is no root
   pub swept-root : (i : ℕ) → i < c → wordAt u i rootCount ≡ wordAt t i rootCount
-  unfolding isRoot
+  unfolding isRootByQueue
   swept-root = each-sort (λ i. i < c → wordAt u i rootCount ≡ wordAt t i rootCount)
       (λ i h l. live-words i rootCount l (omega arith) (omega arith) h)
       (λ i h e l. sweep .freed i rootCount (is-dead i l e h) (omega arith) (omega arith) ∙ sym (no-root i l h))
@@ -146,7 +148,7 @@ module _ (t : List ℕ) (ps : List Packet) (f : Facts t ps) where
   live-fit w h g = record { legal = rw swept-capacity (h .legal); used = λ i l e. let m : i < c = rw swept-capacity at l in swept-use i m ∙ g i m e }
 
   named-live : (w i : ℕ) → i < c → w ≡ suc i → isNamed ps w ≡ true → live i ≡ true
-  named-live w i l e n = reached-live (begun l (unfold isRoot in or-right (ltb 0 (wordAt t i rootCount)) (rw e at n)))
+  named-live w i l e n = reached-live (begun l (unfold isRootByQueue in or-right (ltb 0 (wordAt t i rootCount)) (rw e at n)))
 
   legal-all : (qs : List Packet) → ((w : ℕ) → isNamed qs w ≡ true → isNamed ps w ≡ true) → All (LegalPacket t) qs → All (LegalPacket u) qs
   unfolding packetLegal isNamed
@@ -288,15 +290,25 @@ module _ (t : List ℕ) (ps : List Packet) (f : Facts t ps) where
     counts = rw swept-capacity counts-after;
   }
 
+  -- no name count changes either: a dead cell is not named
+  pub swept-counted : Counted u ps
+  swept-counted = rw swept-capacity (each-sort (λ i. i < c → wordAt u i nameCount ≡ timesNamed ps (suc i))
+      (λ i h l. live-words i nameCount l (omega arith) (omega arith) h ∙ n i l)
+      (λ i h e l. wiped i nameCount l h (omega arith) (omega arith) ∙ sym (none-named ps (suc i) (unnamed i l h)))
+      (λ i h e l. free-words i nameCount (omega arith) (omega arith) (omega arith) e ∙ n i l))
+    where
+      unnamed : (i : ℕ) → i < c → live i ≡ false → isNamed ps (suc i) ≡ false
+      unnamed i l h = ⊎-elim (λ e. absurd (not-both (named-live (suc i) i l refl e) h)) (λ e. e) (tested (isNamed ps (suc i)))
+
   pub swept-live : Live u ps
   swept-live i l h =
       let m : i < c = rw swept-capacity at l in
       reached-grows t u ps ps swept-capacity roots edges (live-reached i (used-live i m h))
     where
-      roots : (i : ℕ) → i < c → isRoot t ps i ≡ true → isRoot u ps i ≡ true
-      roots i l e = unfold isRoot in rw (swept-root i l) e
+      roots : (i : ℕ) → i < c → isRootByQueue t ps i ≡ true → isRootByQueue u ps i ≡ true
+      roots i l e = unfold isRootByQueue in rw (swept-root i l) e
 
-      edges : (j i : ℕ) → Reached t ps j → i < c → pointsTo t j i ≡ true → (pointsTo u j i ≡ true) ⊎ (isRoot u ps i ≡ true)
+      edges : (j i : ℕ) → ReachedByQueue t ps j → i < c → pointsTo t j i ≡ true → (pointsTo u j i ≡ true) ⊎ (isRootByQueue u ps i ≡ true)
       edges j i r l e =
           let w = points-cases t j i e in
           let low = w .1 in

@@ -10,14 +10,16 @@ use lib.ListN.{length}
 use borrow.Author.Tests.{le-ltb}
 use Rattle.machine.specs.Range.{matching, occurrences, lastOf}
 use Rattle.machine.specs.Words.{mostCells}
-use Rattle.machine.specs.Table.{left, rootCount, cellCount, state, capacity, firstFree, lastFree, tableLength, wordAt, inUse}
+use Rattle.machine.specs.Table.{left, rootCount, cellCount, state, nameCount, capacity, firstFree, lastFree, tableLength, wordAt, inUse}
 use Rattle.machine.specs.Queue.{emptyQueue}
+use Rattle.machine.specs.Packets.{timesNamed}
 use Rattle.machine.specs.Calls.{freshTable}
 use Rattle.machine.specs.Audit.{replays, Sound}
 use Rattle.machine.specs.Facts.{Linked, Chain, FreshTable}
 use Rattle.machine.proofs.Range.{matching-same, matching-other, not-both}
 use Rattle.machine.proofs.Table.{not-in-use-free}
 use Rattle.machine.proofs.Fresh.{fresh-is}
+use Rattle.machine.proofs.RootsByCell.{Counted}
 use Rattle.soundness.proofs.Views.{shown, seen, seen-none, earlier}
 use Rattle.soundness.proofs.Stages.{shown-free}
 use Rattle.soundness.proofs.Facts.{Facts, Live, facts-sound}
@@ -106,6 +108,10 @@ module _ (c : ℕ) (t u : List ℕ) (some : 1 ≤ c) (most : c ≤ mostCells) (r
     counts = λ i l. f .zeros i cellCount (rw (f .newCapacity) at l) (omega arith) (omega arith) ∙ sym (none-seen i);
   }
 
+  fresh-counted : Counted u []
+  unfolding timesNamed
+  fresh-counted i l = f .zeros i nameCount (rw (f .newCapacity) at l) (omega arith) (omega arith)
+
   fresh-live : Live u []
   fresh-live i l h = absurd (not-both h (unused i (rw (f .newCapacity) at l)))
 
@@ -113,7 +119,8 @@ pub fresh-sound : (c : ℕ) (t : List ℕ) → 1 ≤ c → c ≤ mostCells → t
 fresh-sound c t some most room =
     let f = fresh-is c t room in
     facts-sound (freshTable c t) emptyQueue slots-empty
-    (rw waiting-empty (fresh-facts c t (freshTable c t) some most room f)) (rw waiting-empty (fresh-live c t (freshTable c t) some most room f))
+    (rw waiting-empty (fresh-facts c t (freshTable c t) some most room f)) (rw waiting-empty (fresh-counted c t (freshTable c t) some most room f))
+    (rw waiting-empty (fresh-live c t (freshTable c t) some most room f))
 
 -- and every root count is 0
 pub fresh-roots : (c : ℕ) (t : List ℕ) → tableLength c ≤ length t → (i : ℕ) → i < capacity (freshTable c t) → wordAt (freshTable c t) i rootCount ≡ 0

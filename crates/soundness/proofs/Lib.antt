@@ -22,6 +22,7 @@ pub mod RowWrites
 pub mod RowSound
 -- the step
 pub mod OldestPacket
+pub mod NameCounts
 pub mod Masks
 pub mod FreedCells
 pub mod StepSound
@@ -33,6 +34,7 @@ pub mod Stands
 pub mod CodeTests
 pub mod RaisedCells
 -- text read
+pub mod NamedTable
 pub mod BuiltCells
 pub mod FreeCells
 pub mod TextRead

@@ -29,11 +29,6 @@ first-applied t [] = refl
 first-applied t (h ∷ hs) =
     first-applied (moveCount t (h .counter) (h .word) (h .direction) (h .amount)) hs ∙ firstFree-move t (h .counter) (h .word) (h .direction) (h .amount)
 
--- a word that is no count
-no-count : (m : ℕ) → m ≢ rootCount → m ≢ cellCount → (k : Counter) → m ≢ counterWord k
-no-count m r c root = r
-no-count m r c cell = c
-
 module _ (t : List ℕ) (p : Packet) (ps : List Packet) (f : Facts t (p ∷ ps)) where
   abbrev applied : List ℕ
   applied = applyChanges t (changes p)
@@ -44,8 +39,8 @@ module _ (t : List ℕ) (p : Packet) (ps : List Packet) (f : Facts t (p ∷ ps))
   pub applied-capacity : capacity applied ≡ capacity t
   applied-capacity = frame .sameCapacity
 
-  stands : (i m : ℕ) → m < stride → m ≢ rootCount → m ≢ cellCount → wordAt applied i m ≡ wordAt t i m
-  stands i m l r c = word-applied t (changes p) i m l (no-count m r c)
+  pub stands : (i m : ℕ) → m < stride → m ≢ rootCount → m ≢ cellCount → wordAt applied i m ≡ wordAt t i m
+  stands i m l r c = word-applied t p i m l r c
 
   pub applied-use : (i : ℕ) → inUse applied i ≡ inUse t i
   unfolding inUse

@@ -1,5 +1,5 @@
 -- What is said of a packet kind by kind: here the kinds are split, and almost nowhere else.
-use mathlib.Core.Path.{_≡_, refl, ap, _∙_}
+use mathlib.Core.Path.{_≡_, refl, sym, ap, _∙_}
 use mathlib.Core.Logic.{_⊎_, inl, inr, ⊎-elim, _≢_}
 use mathlib.Core.Bool.{true, false, cond, false≢true}
 use mathlib.Core.List.{List, [], _∷_, _++_}
@@ -9,11 +9,11 @@ use lib.Dec.{eqb}
 use lib.ListN.{length}
 use borrow.Author.Tests.{eqb-false}
 use Rattle.machine.specs.Range.{matching}
-use Rattle.machine.specs.Table.{stride, capacity, tableLength, wordAt}
+use Rattle.machine.specs.Table.{stride, rootCount, cellCount, capacity, tableLength, wordAt}
 use Rattle.machine.specs.Queue.{Packet}
-use Rattle.machine.specs.Packets.{Kind, reads, makes, replaces, raises, lowers, unknown, kindOf, Counter, root, cell, Direction, plus, minus, Change, changesOf, changes, namesOf, names, usesOf, uses, sameCounter, movedBy, waitingChange, contains, isNamed}
+use Rattle.machine.specs.Packets.{Kind, reads, makes, replaces, raises, lowers, unknown, kindOf, Counter, root, cell, name, Direction, plus, minus, Change, changesOf, changes, namesOf, names, usesOf, uses, sameCounter, movedBy, waitingChange, contains, isNamed}
 use Rattle.machine.specs.Step.{counterWord, shifted, moveCount, applyChanges}
-use Rattle.machine.proofs.Range.{or-false, or-left, or-right, or-true, matching-other}
+use Rattle.machine.proofs.Range.{tested, or-false, or-left, or-right, or-true, matching-other}
 use Rattle.machine.proofs.Moves.{length-move, capacity-move, word-move, count-move}
 
 -- a packet's changes of one counter of x, in one direction
@@ -71,22 +71,32 @@ unnamed p x h = record { unused = unused (kindOf (p .kind)) (p .a) (p .b) (p .c)
     still reads a b c e root minus = omega (arith, first a b c 1 e)
     still reads a b c e cell plus = refl
     still reads a b c e cell minus = refl
+    still reads a b c e name plus = refl
+    still reads a b c e name minus = refl
     still makes a b c e root plus = refl
     still makes a b c e root minus = omega (arith, first a b c 1 e, second a b c 1 e)
     still makes a b c e cell plus = omega (arith, first a b c 1 e, second a b c 1 e)
     still makes a b c e cell minus = refl
+    still makes a b c e name plus = refl
+    still makes a b c e name minus = refl
     still (replaces m) a b c e root plus = refl
     still (replaces m) a b c e root minus = omega (arith, first a b c 1 e)
     still (replaces m) a b c e cell plus = omega (arith, first a b c 1 e)
     still (replaces m) a b c e cell minus = omega (arith, second a b c 1 e)
+    still (replaces m) a b c e name plus = refl
+    still (replaces m) a b c e name minus = refl
     still raises a b c e root plus = omega (arith, none-of a [] x b e .0)
     still raises a b c e root minus = refl
     still raises a b c e cell plus = refl
     still raises a b c e cell minus = refl
+    still raises a b c e name plus = refl
+    still raises a b c e name minus = refl
     still lowers a b c e root plus = refl
     still lowers a b c e root minus = omega (arith, none-of a [] x b e .0)
     still lowers a b c e cell plus = refl
     still lowers a b c e cell minus = refl
+    still lowers a b c e name plus = refl
+    still lowers a b c e name minus = refl
     still unknown a b c e m d = refl
 
 -- a list of packets that does not name x: each of them, and the sums
@@ -117,17 +127,38 @@ named-snoc (q ∷ ps) p x h =
     (or-true (contains (names q) x) (isNamed ps x) e))
     (λ e. or-right (contains (names q) x) (named-snoc ps p x (inr e))) h
 
+pub unnamed-last : (ps : List Packet) (p : Packet) (x : ℕ) → isNamed (ps ++ (p ∷ [])) x ≡ false → contains (names p) x ≡ false
+unnamed-last ps p x e = ⊎-elim (λ c. absurd (false≢true (sym e ∙ named-snoc ps p x (inr c)))) (λ c. c) (tested (contains (names p) x))
+
 -- a count run through a list of changes, and the counters of a table to which the changes are made
 unfoldable pub running : Counter → ℕ → List Change → ℕ → ℕ
 running k x [] n = n
 running k x (h ∷ hs) n = running k x hs (cond (sameCounter k (h .counter)) (shifted (h .direction) n (matching (h .word) x (h .amount))) n)
 
-pub word-applied : (t : List ℕ) (hs : List Change) (j m : ℕ) → m < stride → ((k : Counter) → m ≢ counterWord k) → wordAt (applyChanges t hs) j m ≡ wordAt t j m
+-- no change of a list is of the counter at word m
+abbrev Spares : ℕ → List Change → Type 0
+Spares m [] = Unit {0}
+Spares m (h ∷ hs) = (m ≢ counterWord (h .counter)) × Spares m hs
+
+word-spared : (t : List ℕ) (hs : List Change) (j m : ℕ) → m < stride → Spares m hs → wordAt (applyChanges t hs) j m ≡ wordAt t j m
 unfolding applyChanges
-word-applied t [] j m l d = refl
-word-applied t (h ∷ hs) j m l d =
-    word-applied (moveCount t (h .counter) (h .word) (h .direction) (h .amount)) hs j m l d
-    ∙ word-move t (h .counter) (h .word) (h .direction) (h .amount) j m l (d (h .counter))
+word-spared t [] j m l d = refl
+word-spared t (h ∷ hs) j m l d =
+    word-spared (moveCount t (h .counter) (h .word) (h .direction) (h .amount)) hs j m l (d .1)
+    ∙ word-move t (h .counter) (h .word) (h .direction) (h .amount) j m l (d .0)
+
+-- a packet changes root counts and cell counts alone
+pub word-applied : (t : List ℕ) (p : Packet) (j m : ℕ) → m < stride → m ≢ rootCount → m ≢ cellCount → wordAt (applyChanges t (changes p)) j m ≡ wordAt t j m
+unfolding changes changesOf
+word-applied t p j m l r c = word-spared t (changes p) j m l (spares (kindOf (p .kind)) (p .a) (p .b))
+  where
+    spares : (k : Kind) (a b : ℕ) → Spares m (changesOf k a b)
+    spares reads a b = (r, (r, tt))
+    spares makes a b = (r, (c, (r, (c, tt))))
+    spares (replaces f) a b = (r, (c, (c, tt)))
+    spares raises a b = (r, tt)
+    spares lowers a b = (r, tt)
+    spares unknown a b = tt
 
 -- one change, of every counter of every cell
 pub count-change : (t : List ℕ) (h : Change) (k : Counter) (j : ℕ) → tableLength (capacity t) ≤ length t → j < capacity t
@@ -140,7 +171,12 @@ count-change t h k j f l = by-counter k (h .counter)
     by-counter root root = count-move t root (h .word) (h .direction) (h .amount) f j l
     by-counter root cell = word-move t cell (h .word) (h .direction) (h .amount) j (counterWord root) (omega arith) (omega arith)
     by-counter cell root = word-move t root (h .word) (h .direction) (h .amount) j (counterWord cell) (omega arith) (omega arith)
+    by-counter root name = word-move t name (h .word) (h .direction) (h .amount) j (counterWord root) (omega arith) (omega arith)
     by-counter cell cell = count-move t cell (h .word) (h .direction) (h .amount) f j l
+    by-counter cell name = word-move t name (h .word) (h .direction) (h .amount) j (counterWord cell) (omega arith) (omega arith)
+    by-counter name root = word-move t root (h .word) (h .direction) (h .amount) j (counterWord name) (omega arith) (omega arith)
+    by-counter name cell = word-move t cell (h .word) (h .direction) (h .amount) j (counterWord name) (omega arith) (omega arith)
+    by-counter name name = count-move t name (h .word) (h .direction) (h .amount) f j l
 
 pub count-applied : (t : List ℕ) (hs : List Change) (k : Counter) (j : ℕ) → tableLength (capacity t) ≤ length t → j < capacity t
     → wordAt (applyChanges t hs) j (counterWord k) ≡ running k (suc j) hs (wordAt t j (counterWord k))

@@ -11,7 +11,7 @@ use Rattle.machine.specs.Words.{isCell, isLegal}
 use Rattle.machine.specs.Table.{stride, right, rootCount, cellCount, state, capacity, wordAt, putWord, inUse}
 use Rattle.machine.specs.Queue.{Packet, packet}
 use Rattle.machine.specs.Packets.{replaces, kindOf, namesOf, names, usesOf, uses, contains}
-use Rattle.machine.specs.Reached.{isRoot, pointsTo, Reached}
+use Rattle.machine.specs.Reached.{isRootByQueue, pointsTo, ReachedByQueue}
 use Rattle.machine.specs.Audit.{wordsOfKind, packetLegal}
 use Rattle.machine.proofs.Range.{tested, and-both, and-first, and-second, not-both, matching-same}
 use Rattle.machine.proofs.Words.{cell-index}
@@ -133,13 +133,13 @@ module _ (t : List ℕ) (ps : List Packet) (f : Facts t ps) (n k x y : ℕ) (kin
     })
 
     -- a pointer that the replace detached leads to a cell that the packet names
-    edges : (j i : ℕ) → Reached t ps j → i < capacity t → pointsTo t j i ≡ true → (pointsTo u j i ≡ true) ⊎ (isRoot u (ps ++ (replace ∷ [])) i ≡ true)
+    edges : (j i : ℕ) → ReachedByQueue t ps j → i < capacity t → pointsTo t j i ≡ true → (pointsTo u j i ≡ true) ⊎ (isRootByQueue u (ps ++ (replace ∷ [])) i ≡ true)
     edges j i _ l h = through (points-cases t j i h)
       where
         named : detached ≡ suc i → contains (names replace) (suc i) ≡ true
         named d = unfold names in rw kind (unfold namesOf in rw (← d) (second-of y detached (x ∷ [])))
 
-        through : (b : ℕ) × (b ≤ right) × (wordAt t j b ≡ suc i) → (pointsTo u j i ≡ true) ⊎ (isRoot u (ps ++ (replace ∷ [])) i ≡ true)
+        through : (b : ℕ) × (b ≤ right) × (wordAt t j b ≡ suc i) → (pointsTo u j i ≡ true) ⊎ (isRootByQueue u (ps ++ (replace ∷ [])) i ≡ true)
         through w =
             ⊎-elim (λ c. inr (root-named u ps replace i (named (here c)))) (λ c. inl (points-by u j i (w .0) (w .1) (there c ∙ w .2)))
             (tested (eqb k (w .0) && eqb (pred x) j))

@@ -13,14 +13,15 @@ use Rattle.machine.specs.Table.{left, right, rootCount, capacity, wordAt}
 use Rattle.machine.specs.Queue.{Packet, emptyQueue, appended, taken, waiting}
 use Rattle.machine.specs.Packets.{kindOf, root, plus, minus, changesOf, changes, movedBy, usesOf, uses, waitingChange}
 use Rattle.machine.specs.Calls.{fresh, read, RowCall, car, cdr, cons, setLeft, setRight, up, down, row, Store, packetOf, readsNil, written, valueOf, freshTable}
-use Rattle.machine.specs.Step.{applyChanges}
+use Rattle.machine.specs.Step.{named, applyPacket}
 use Rattle.machine.specs.Questions.{firstNo, askFree, questions}
 use Rattle.machine.specs.Texts.{buildBy}
 use Rattle.machine.specs.Machine.{consed, accepted}
 use Rattle.machine.proofs.Table.{word-other}
 use Rattle.machine.proofs.Ring.{arrays-appended, arrays-taken, waiting-appended}
 use Rattle.machine.proofs.Range.{matching-other}
-use Rattle.machine.proofs.Kept.{machine-accepted, kept}
+use Rattle.machine.proofs.Names.{named-capacity}
+use Rattle.machine.proofs.RootsByCell.{Counted, sound-counted}
 use Rattle.machine.proofs.NilReads.{nil-cases, word-read}
 use Rattle.machine.proofs.Replay.{replays-uses}
 use Rattle.soundness.specs.Demand3.{Holds, holds, gains, gives, NoneOwed, RootsAreHolds}
@@ -32,9 +33,11 @@ use Rattle.soundness.proofs.ZeroSlots.{waiting-empty}
 use Rattle.soundness.proofs.FreshSound.{fresh-roots}
 use Rattle.soundness.proofs.HeldCounts.{replayed-sum}
 use Rattle.soundness.proofs.RowQuestions.{RowYes, row-yes}
-use Rattle.soundness.proofs.RowWrites.{cons-root}
+use Rattle.soundness.proofs.RowWrites.{cons-root, row-wrote}
 use Rattle.soundness.proofs.RowSound.{row-sound}
-use Rattle.soundness.proofs.OldestPacket.{applied-capacity, applied-root, applied-facts}
+use Rattle.soundness.proofs.OldestPacket.{applied-root}
+use Rattle.soundness.proofs.NameCounts.{packet-capacity, packet-word, packet-facts, packet-counted}
+use Rattle.soundness.proofs.NamedTable.{named-root}
 use Rattle.soundness.proofs.FreedCells.{swept-capacity, swept-root}
 use Rattle.soundness.proofs.StepSound.{stepTable, waiting-rest, step-sound}
 use Rattle.soundness.proofs.CallSound.{fresh-yes, fresh-whole, text-built}
@@ -94,13 +97,13 @@ nil-agrees t q r h e a = record {
 }
 
 pub row-agrees : (s : Store) (r : RowCall) (h : ℕ → Holds) → readsNil r ≡ false → Agrees (s .table) (s .queue) h → firstNo (questions s (row r)) ≡ 0
-    → Agrees (written (s .table) r) (appended (s .queue) (packetOf (s .table) r))
+    → Agrees (named plus (written (s .table) r) (packetOf (s .table) r)) (appended (s .queue) (packetOf (s .table) r))
     (λ x. holds (h x .gained + gains r (valueOf (s .table) r) x) (h x .given + gives r x))
 unfolding accepted
 row-agrees s r h n a e = record {
   whole = record { sound = row-sound s r n (w .sound) (w .arrays) e; arrays = arrays-appended q p (w .arrays) };
   roots = rw (waiting-appended q p (w .arrays) (y .slot), same) (λ (i : ℕ) (l : i < capacity t).
-      omega (arith, a .roots i l, row-moves t q f r y i l, waiting-snoc root plus (suc i) (waiting q) p, waiting-snoc root minus (suc i) (waiting q) p));
+      omega (arith, a .roots i l, named-root plus (written t r) p i, row-moves t q f r y i l, waiting-snoc root plus (suc i) (waiting q) p, waiting-snoc root minus (suc i) (waiting q) p));
   owed = rw same (λ (i : ℕ) (l : i < capacity t).
       ⊎-elim (λ z. omega (arith, a .owed i l, gives-uses t r (suc i))) (λ z. omega (arith, a .owed i l, a .roots i l, gives-uses t r (suc i)))
       (y .passed .held i l));
@@ -124,11 +127,11 @@ row-agrees s r h n a e = record {
     f : Facts t (waiting q)
     f = sound-facts t q (w .sound)
 
-    same : capacity (written t r) ≡ capacity t
-    same = rw (machine-accepted s (row r) e) at (kept s (row r) .bounded .sameCapacity)
+    same : capacity (named plus (written t r) p) ≡ capacity t
+    same = named-capacity plus (written t r) p ∙ row-wrote t (waiting q) f r (y .early) (y .passed .held) (y .free) .sameCapacity
 
 pub step-agrees : (t : List ℕ) (q : Queue) (p : Packet) (ps : List Packet) (h : ℕ → Holds) → Agrees t q h → waiting q ≡ p ∷ ps
-    → Agrees (stepTable t p ps) (taken q) h
+    → Agrees (stepTable t p) (taken q) h
 step-agrees t q p ps h a e = record {
   whole = record { sound = step-sound t q p ps (w .sound) (w .arrays) e; arrays = arrays-taken q (w .arrays) };
   roots = rw (waiting-rest q p ps (slots-of t q (w .sound)) e, same) (λ (i : ℕ) (l : i < capacity t).
@@ -137,7 +140,8 @@ step-agrees t q p ps h a e = record {
         rw e at (a .roots i l),
         waiting-cons root plus (suc i) p ps,
         waiting-cons root minus (suc i) p ps,
-        swept-root u ps g i (rw (applied-capacity t p ps f) l),
+        swept-root u ps g d i (rw (packet-capacity t p ps f) l),
+        packet-word t p ps f i rootCount (omega arith) (omega arith),
         applied-root t p ps f i l,
         replayed-sum (suc i) (wordAt t i rootCount) p (leb-true (uses p (suc i)) (wordAt t i rootCount)
             (replays-uses (suc i) (wordAt t i rootCount) p ps (f .replay i l))),
@@ -152,13 +156,16 @@ step-agrees t q p ps h a e = record {
     f = rw e at (sound-facts t q (w .sound))
 
     u : List ℕ
-    u = applyChanges t (changes p)
+    u = applyPacket t p
 
     g : Facts u ps
-    g = applied-facts t p ps f
+    g = packet-facts t p ps f
 
-    same : capacity (stepTable t p ps) ≡ capacity t
-    same = swept-capacity u ps g ∙ applied-capacity t p ps f
+    d : Counted u ps
+    d = packet-counted t p ps f (rw e at (sound-counted t q (w .sound)))
+
+    same : capacity (stepTable t p) ≡ capacity t
+    same = swept-capacity u ps g d ∙ packet-capacity t p ps f
 
 -- a text read gains one hold of its word
 pub read-agrees : (s : Store) (text : List ℕ) (h : ℕ → Holds) → Agrees (s .table) (s .queue) h → firstNo (questions s (read text)) ≡ 0

@@ -9,7 +9,7 @@ use lib.Dec.{eqb}
 use borrow.Author.Tests.{eqb-true, eqb-false}
 use Rattle.machine.specs.Range.{matching, everyOf}
 use Rattle.machine.specs.Words.{isLegal}
-use Rattle.machine.specs.Table.{left, right, rootCount, capacity, firstFree, wordAt, inUse}
+use Rattle.machine.specs.Table.{left, right, rootCount, nameCount, capacity, firstFree, wordAt, inUse}
 use Rattle.machine.specs.Queue.{Packet, packet}
 use Rattle.machine.specs.Packets.{kindOf, root, plus, changesOf, changes, movedBy}
 use Rattle.machine.specs.Calls.{RowCall, car, cdr, cons, setLeft, setRight, up, down, field, packetOf, withoutFirst, written}
@@ -24,7 +24,7 @@ use Rattle.soundness.proofs.Facts.{Facts, free-zero}
 use Rattle.soundness.proofs.NewPacket.{HeldFor, Wrote}
 use Rattle.soundness.proofs.ReadUpDown.{wrote-nothing}
 use Rattle.soundness.proofs.Replace.{replace-wrote}
-use Rattle.soundness.proofs.Cons.{withCell, was-free, cons-roots, cons-wrote}
+use Rattle.soundness.proofs.Cons.{withCell, was-free, cons-roots, cons-names, cons-wrote}
 
 pred-suc : (n : ℕ) → pred (suc n) ≡ n
 pred-suc n = omega arith
@@ -69,6 +69,19 @@ module _ (t : List ℕ) (ps : List Packet) (f : Facts t ps) where
   cons-new x y i a l =
       cons-case t (f .free) (f .chain) (some-free a) x y (λ u p. p .c ≡ suc i → inUse t i ≡ false)
       (λ new rest c e. let d : i ≡ new = omega arith in rw d (was-free t ps f new rest c x y))
+
+  -- name counts stand until the packet's cells are named
+  pub row-names : (r : RowCall) → AllYes (askFree t r) → (i : ℕ) → i < capacity t → wordAt (written t r) i nameCount ≡ wordAt t i nameCount
+  unfolding askFree
+  row-names (car x) a i l = unfold written in refl
+  row-names (cdr x) a i l = unfold written in refl
+  row-names (cons x y) a i l =
+      cons-case t (f .free) (f .chain) (some-free (a .0)) x y (λ u p. wordAt u i nameCount ≡ wordAt t i nameCount)
+      (λ new rest c. cons-names t ps f new rest c x y i l)
+  row-names (setLeft x y) a i l = unfold written in word-other t (pred x) left y i nameCount (omega arith) (omega arith) (λ _ e. omega arith)
+  row-names (setRight x y) a i l = unfold written in word-other t (pred x) right y i nameCount (omega arith) (omega arith) (λ _ e. omega arith)
+  row-names (up x n) a i l = unfold written in refl
+  row-names (down x n) a i l = unfold written in refl
 
   -- a root count stands, or is that of cons's new cell, which was free
   pub row-root : (r : RowCall) → AllYes (askFree t r) → (i : ℕ) → i < capacity t

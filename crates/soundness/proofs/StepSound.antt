@@ -6,14 +6,14 @@ use native.Mathlib.Omega.{arith}
 use lib.ListN.{length}
 use Rattle.machine.specs.declared.Queue.{Queue}
 use Rattle.machine.specs.Queue.{Arrays, Packet, slot, taken, waiting}
-use Rattle.machine.specs.Packets.{changes}
-use Rattle.machine.specs.Step.{applyChanges, unreached, swept}
+use Rattle.machine.specs.Step.{applyPacket, unreached, swept}
 use Rattle.machine.specs.Audit.{Sound}
 use Rattle.machine.proofs.Ring.{waiting-taken, length-waiting}
+use Rattle.machine.proofs.RootsByCell.{sound-counted}
 use Rattle.soundness.proofs.Facts.{Slots, slots-of, sound-facts, facts-sound}
 use Rattle.soundness.proofs.ZeroSlots.{slots-taken}
-use Rattle.soundness.proofs.OldestPacket.{applied-facts}
-use Rattle.soundness.proofs.FreedCells.{swept-facts, swept-live}
+use Rattle.soundness.proofs.NameCounts.{packet-facts, packet-counted}
+use Rattle.soundness.proofs.FreedCells.{swept-facts, swept-counted, swept-live}
 
 -- the packets that wait behind the oldest are those of the queue without it
 module _ (q : Queue) (p : Packet) (ps : List Packet) (n : Slots q) (e : waiting q ≡ p ∷ ps) where
@@ -29,13 +29,16 @@ module _ (q : Queue) (p : Packet) (ps : List Packet) (n : Slots q) (e : waiting 
       tails a b xs ys h = cc
 
 -- the table that a step makes of t when it takes p
-abbrev pub stepTable : List ℕ → Packet → List Packet → List ℕ
-stepTable t p ps = swept (applyChanges t (changes p)) (unreached (applyChanges t (changes p)) ps)
+abbrev pub stepTable : List ℕ → Packet → List ℕ
+stepTable t p = swept (applyPacket t p) (unreached (applyPacket t p))
 
-pub step-sound : (t : List ℕ) (q : Queue) (p : Packet) (ps : List Packet) → Sound t q → Arrays q → waiting q ≡ p ∷ ps → Sound (stepTable t p ps) (taken q)
+pub step-sound : (t : List ℕ) (q : Queue) (p : Packet) (ps : List Packet) → Sound t q → Arrays q → waiting q ≡ p ∷ ps → Sound (stepTable t p) (taken q)
 step-sound t q p ps h a e =
     let n = slots-of t q h in
-    let f = applied-facts t p ps (rw e at (sound-facts t q h)) in
+    let u = applyPacket t p in
+    let g = rw e at (sound-facts t q h) in
+    let f = packet-facts t p ps g in
+    let d = packet-counted t p ps g (rw e at (sound-counted t q h)) in
     let r = waiting-rest q p ps n e in
-    facts-sound (stepTable t p ps) (taken q) (slots-taken q a (one-waits q p ps n e) n)
-    (rw r (swept-facts (applyChanges t (changes p)) ps f)) (rw r (swept-live (applyChanges t (changes p)) ps f))
+    facts-sound (stepTable t p) (taken q) (slots-taken q a (one-waits q p ps n e) n)
+    (rw r (swept-facts u ps f d)) (rw r (swept-counted u ps f d)) (rw r (swept-live u ps f d))

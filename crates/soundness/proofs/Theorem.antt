@@ -11,7 +11,7 @@ use Rattle.machine.specs.declared.Queue.{Queue}
 use Rattle.machine.specs.Table.{rootCount, capacity, wordAt, inUse, isFree}
 use Rattle.machine.specs.Queue.{Packet, waiting}
 use Rattle.machine.specs.Packets.{root, plus, minus, isNamed}
-use Rattle.machine.specs.Reached.{isRoot, begun, onward, Reached, ReachedFrom}
+use Rattle.machine.specs.Reached.{isRootByQueue, begun, onward, ReachedByQueue, ReachedFrom}
 use Rattle.machine.specs.Calls.{Call, fresh, row, step, audit, read, write, Reply, value, refused, Store, store}
 use Rattle.machine.specs.Step.{stepWith, stepFrom, stepped}
 use Rattle.machine.specs.Questions.{firstNo, questions}
@@ -100,12 +100,12 @@ module _ (t : List ℕ) (q : Queue) (h : ℕ → Holds) (a : Agrees t q h) where
   from-held j g (onward {j = k} {i = i} r l e) = let w = from-held j g r in (l, pointed-used t ps f k i (w .0) l (w .1) e)
 
   -- what is reached is reached from a root
-  from-root : {i : ℕ} → Reached t ps i → (j : ℕ) × (j < capacity t) × (isRoot t ps j ≡ true) × ReachedFrom t j i
+  from-root : {i : ℕ} → ReachedByQueue t ps i → (j : ℕ) × (j < capacity t) × (isRootByQueue t ps j ≡ true) × ReachedFrom t j i
   from-root (begun {i = i} l e) = (i, l, e, begun l (eq-eqb i i refl))
   from-root (onward {i = i} r l e) = let w = from-root r in (w .0, w .1, w .2, onward (w .3) l e)
 
-  root-held : (j : ℕ) → j < capacity t → isRoot t ps j ≡ true → Held t q h j ⊎ (isNamed ps (suc j) ≡ true)
-  unfolding isRoot
+  root-held : (j : ℕ) → j < capacity t → isRootByQueue t ps j ≡ true → Held t q h j ⊎ (isNamed ps (suc j) ≡ true)
+  unfolding isRootByQueue
   root-held j l e =
       ⊎-elim (λ n. inr n)
       (λ n. ⊎-elim (λ c. inl (unnamed-held n (ltb-true 0 (wordAt t j rootCount) c))) (λ c. inr c) (or-true (ltb 0 (wordAt t j rootCount)) (isNamed ps (suc j)) e))

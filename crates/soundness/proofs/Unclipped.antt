@@ -12,8 +12,9 @@ use Rattle.machine.specs.Range.{everyOf}
 use Rattle.machine.specs.Words.{mayBeStored}
 use Rattle.machine.specs.Queue.{waiting}
 use Rattle.machine.specs.Calls.{Call, fresh, row, step, audit, read, write, RowCall, car, cdr, cons, setLeft, setRight, up, down}
-use Rattle.machine.specs.Calls.{Reply, Store, store, valueOf, written}
-use Rattle.machine.specs.Step.{stepped}
+use Rattle.machine.specs.Calls.{Reply, Store, store, packetOf, valueOf, written}
+use Rattle.machine.specs.Packets.{plus}
+use Rattle.machine.specs.Step.{named, stepped}
 use Rattle.machine.specs.Texts.{buildBy}
 use Rattle.machine.specs.Questions.{firstNo, wordsStorable, earlyRow, questions}
 use Rattle.machine.specs.Audit.{audited}
@@ -31,6 +32,7 @@ use Rattle.soundness.proofs.RowQuestions.{RowYes, row-yes}
 use Rattle.soundness.proofs.BuiltCells.{cell-storable}
 use Rattle.soundness.proofs.CallSound.{fresh-whole, cons-whole, decided, promise-whole, value-accepted}
 use Rattle.soundness.proofs.FieldsStand.{row-put, stepped-put, fresh-put}
+use Rattle.soundness.proofs.NamedTable.{named-told}
 
 abbrev Storable : Fields → Type 0
 Storable f = (mayBeStored (f .left) ≡ true) × (mayBeStored (f .right) ≡ true)
@@ -58,10 +60,10 @@ puts-storable t (setRight x y) a w c f s = either (eqb x c) (fields (f .left) y)
 puts-storable t (up x n) a w c f s = s
 puts-storable t (down x n) a w c f s = s
 
-written-unclipped : (t : List ℕ) (q : Queue) (r : RowCall) → Whole t q → RowYes t q r → Unclipped t → Unclipped (written t r)
+written-unclipped : (t : List ℕ) (q : Queue) (r : RowCall) → Whole t q → RowYes t q r → Unclipped t → Unclipped (named plus (written t r) (packetOf t r))
 written-unclipped t q r w y k = record {
   has = λ c. puts r (valueOf t r) c (k .has c);
-  stand = row-put t q (sound-facts t q (w .sound)) (k .has) (k .stand) r y;
+  stand = named-told plus (written t r) (packetOf t r) (λ c. puts r (valueOf t r) c (k .has c)) (row-put t q (sound-facts t q (w .sound)) (k .has) (k .stand) r y);
   storable = λ c. puts-storable t r (y .early) (valueOf t r) c (k .has c) (k .storable c);
 }
 

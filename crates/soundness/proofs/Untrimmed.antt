@@ -1,29 +1,34 @@
 -- On a sound store nothing is trimmed.
-use mathlib.Core.Path.{_≡_, refl, sym}
+use mathlib.Core.Path.{_≡_, refl, sym, ap}
 use mathlib.Core.Logic.{_⊎_, inl, inr, ⊎-elim}
 use mathlib.Core.Bool.{true, false, cond, false≢true}
 use mathlib.Core.List.{List, [], _∷_}
-use Prim.Native.Nat.{ℕ, zero, suc, _+_, _-_, _≤_, _<_}
+use Prim.Native.Nat.{ℕ, zero, suc, _+_, _-_, _*_, _≤_, _<_}
 use native.Mathlib.Omega.{arith}
 use lib.Dec.{eqb, leb}
-use lib.ListN.{take, drop}
+use lib.ListN.{length, take, drop}
 use borrow.Author.Tests.{eqb-true, eqb-false, leb-true, leb-false}
 use Rattle.machine.specs.declared.Queue.{Queue}
-use Rattle.machine.specs.Range.{matching}
+use Rattle.machine.specs.Range.{matching, occurrences}
 use Rattle.machine.specs.Words.{ceiling}
-use Rattle.machine.specs.Table.{rootCount, cellCount, capacity, wordAt}
-use Rattle.machine.specs.Queue.{Packet, waiting}
-use Rattle.machine.specs.Packets.{Kind, reads, makes, replaces, raises, lowers, unknown, kindOf, Counter, root, cell, plus, minus, Change, changesOf, changes, movedBy, uses, usesOf, sameCounter}
-use Rattle.machine.specs.Step.{counterWord, shifted, applyChanges}
+use Rattle.machine.specs.Table.{rootCount, cellCount, nameCount, capacity, wordAt}
+use Rattle.machine.specs.Queue.{Packet, slots, waiting}
+use Rattle.machine.specs.Packets.{Kind, reads, makes, replaces, raises, lowers, unknown, kindOf, Counter, root, cell, name, plus, minus, Change, changesOf, changes, movedBy, names, timesNamed, uses, usesOf, sameCounter}
+use Rattle.machine.specs.Step.{counterWord, shifted, applyPacket}
 use Rattle.machine.specs.Stages.{stage}
 use Rattle.machine.specs.Audit.{Sound, replayed}
 use Rattle.machine.proofs.Range.{tested, matching-same, matching-other}
+use Rattle.machine.proofs.Names.{times-most}
+use Rattle.machine.proofs.Ring.{length-waiting}
+use Rattle.machine.proofs.Questions.{shape-is}
+use Rattle.machine.proofs.RootsByCell.{Counted, sound-counted}
 use Rattle.machine.proofs.Replay.{replays-uses, replays-bound}
 use Rattle.soundness.specs.Untrimmed.{Lowers, ByItself, Untrimmed}
 use Rattle.soundness.proofs.PacketKinds.{running, count-applied}
 use Rattle.soundness.proofs.Views.{shown, earlier, seen-undo, stages-within}
 use Rattle.soundness.proofs.Facts.{Facts, sound-facts, all-below}
-use Rattle.soundness.proofs.OldestPacket.{applied-capacity, applied-facts}
+use Rattle.soundness.proofs.OldestPacket.{applied-capacity, stands, applied-facts}
+use Rattle.soundness.proofs.NameCounts.{packet-capacity, packet-facts, packet-counted}
 use Rattle.soundness.proofs.FreedCells.{swept-enough}
 
 -- one counter of one cell, run through the changes: each lowering is met, and P holds of each number on the way
@@ -84,6 +89,22 @@ runs-cell raises a b x n l m h = (λ (e : false ≡ true). absurd (false≢true 
 runs-cell lowers a b x n l m h = (λ (e : false ≡ true). absurd (false≢true e), inl l, tt)
 runs-cell unknown a b x n l m h = tt
 
+-- and name counts stand
+runs-name : (P : ℕ → Type 0) (k : Kind) (a b x m : ℕ) → P m → Runs P name x (changesOf k a b) m
+unfolding changesOf
+runs-name P k a b x m h = go k
+  where
+    other : {A : Type 0} → false ≡ true → A
+    other e = absurd (false≢true e)
+
+    go : (k : Kind) → Runs P name x (changesOf k a b) m
+    go reads = (other, h, (other, h, tt))
+    go makes = (other, h, (other, h, (other, h, (other, h, tt))))
+    go (replaces f) = (other, h, (other, h, (other, h, tt)))
+    go raises = (other, h, tt)
+    go lowers = (other, h, tt)
+    go unknown = tt
+
 -- P holds at every stage of a run, and each lowering is met at its stage
 runs-stage : (P : ℕ → Type 0) (k : Counter) (x : ℕ) (hs : List Change) (m : ℕ) → Runs P k x hs m → P m → (n : ℕ) → P (running k x (take n hs) m)
 unfolding running
@@ -101,7 +122,7 @@ runs-lowers P k x (j ∷ hs) m r zero h js e c = let same : j ≡ h = cc in rw (
 runs-lowers P k x (j ∷ hs) m r (suc n) h js e c =
     runs-lowers P k x hs (cond (sameCounter k (j .counter)) (shifted (j .direction) m (matching (j .word) x (j .amount))) m) (r .2) n h js e c
 
-module _ (t : List ℕ) (p : Packet) (ps : List Packet) (f : Facts t (p ∷ ps)) where
+module _ (t : List ℕ) (p : Packet) (ps : List Packet) (f : Facts t (p ∷ ps)) (c : Counted t (p ∷ ps)) (few : length (p ∷ ps) ≤ slots) where
   root-runs : (i : ℕ) → i < capacity t → Runs (λ m. m ≤ ceiling) root (suc i) (changes p) (wordAt t i rootCount)
   unfolding changes
   root-runs i l =
@@ -117,6 +138,14 @@ module _ (t : List ℕ) (p : Packet) (ps : List Packet) (f : Facts t (p ∷ ps))
       runs-cell (kindOf (p .kind)) (p .a) (p .b) (suc i) (wordAt t i cellCount) (f .cells i l) (omega arith)
       (omega (arith, stages-within (capacity t) (shown t) ps (f .stages .0) i l))
 
+  -- at most three places of each packet
+  names-few : (i : ℕ) → i < capacity t → wordAt t i nameCount ≤ 3 * slots
+  names-few i l = omega (arith, c i l, times-most (p ∷ ps) (suc i))
+
+  name-runs : (i : ℕ) → i < capacity t → Runs (λ m. m ≤ 3 * slots) name (suc i) (changes p) (wordAt t i nameCount)
+  unfolding changes
+  name-runs i l = runs-name (λ m. m ≤ 3 * slots) (kindOf (p .kind)) (p .a) (p .b) (suc i) (wordAt t i nameCount) (names-few i l)
+
   -- a counter at a stage is its count run so far
   at-stage : (n : ℕ) (k : Counter) (i : ℕ) → i < capacity t → wordAt (stage t p n) i (counterWord k) ≡ running k (suc i) (take n (changes p)) (wordAt t i (counterWord k))
   unfolding stage
@@ -130,21 +159,31 @@ module _ (t : List ℕ) (p : Packet) (ps : List Packet) (f : Facts t (p ∷ ps))
       rw (at-stage n cell i l)
       (runs-stage (InPassing (kindOf (p .kind)) (p .a) (p .b) (suc i)) cell (suc i) (changes p) (wordAt t i cellCount) (cell-runs i l) (inl (f .cells i l)) n)
 
+  name-stage : (n i : ℕ) → i < capacity t → wordAt (stage t p n) i nameCount ≤ 3 * slots
+  name-stage n i l = rw (at-stage n name i l) (runs-stage (λ m. m ≤ 3 * slots) name (suc i) (changes p) (wordAt t i nameCount) (name-runs i l) (names-few i l) n)
+
   met : (n : ℕ) (h : Change) (hs : List Change) → drop n (changes p) ≡ h ∷ hs → (i : ℕ) → i < capacity t → (k : Counter) → h .counter ≡ k
       → Lowers (h .direction) (wordAt (stage t p n) i (counterWord k)) (matching (h .word) (suc i) (h .amount))
   met n h hs d i l root e = rw (at-stage n root i l) (runs-lowers _ root (suc i) (changes p) (wordAt t i rootCount) (root-runs i l) n h hs d (rw e))
   met n h hs d i l cell e = rw (at-stage n cell i l) (runs-lowers _ cell (suc i) (changes p) (wordAt t i cellCount) (cell-runs i l) n h hs d (rw e))
+  met n h hs d i l name e = rw (at-stage n name i l) (runs-lowers _ name (suc i) (changes p) (wordAt t i nameCount) (name-runs i l) n h hs d (rw e))
 
   within : (n : ℕ) (k : Counter) (i : ℕ) → i < capacity t → wordAt (stage t p n) i (counterWord k) ≤ suc ceiling
   within n root i l = omega (arith, root-stage n i l)
   within n cell i l = ⊎-elim (λ m. omega arith) (λ e. omega (arith, e .0)) (cell-stage n i l)
+  within n name i l = omega (arith, name-stage n i l)
 
   at-most : (n : ℕ) (k : Counter) (i : ℕ) → i < capacity t → wordAt (stage t p n) i (counterWord k) ≡ suc ceiling
       → (k ≡ cell) × ByItself (kindOf (p .kind)) (p .a) (p .b) (suc i)
   at-most n root i l e = absurd (omega (arith, root-stage n i l))
   at-most n cell i l e = ⊎-elim (λ m. absurd (omega arith)) (λ d. (refl, d .1)) (cell-stage n i l)
+  at-most n name i l e = absurd (omega (arith, name-stage n i l))
 
-  untrimmed-facts : Untrimmed t p ps
+  unnamed : (i : ℕ) → i < capacity t → occurrences (suc i) (names p) ≤ wordAt t i nameCount
+  unfolding timesNamed
+  unnamed i l = omega (arith, c i l)
+
+  untrimmed-facts : Untrimmed t p
   untrimmed-facts =
       let g = applied-facts t p ps f in
       let same = applied-capacity t p ps f in
@@ -154,8 +193,11 @@ module _ (t : List ℕ) (p : Packet) (ps : List Packet) (f : Facts t (p ∷ ps))
         only = at-most;
         roots = λ i l. g .roots i (rw same l);
         cells = λ i l. g .cells i (rw same l);
-        freeing = λ i l. swept-enough (applyChanges t (changes p)) ps g i (rw same l);
+        unnaming = λ i l. omega (arith, unnamed i l, stands t p ps f i nameCount (omega arith) (omega arith) (omega arith));
+        freeing = λ i l. swept-enough (applyPacket t p) ps (packet-facts t p ps f) (packet-counted t p ps f c) i (rw (packet-capacity t p ps f) l);
       }
 
-pub untrimmed : (t : List ℕ) (q : Queue) (p : Packet) (ps : List Packet) → Sound t q → waiting q ≡ p ∷ ps → Untrimmed t p ps
-untrimmed t q p ps s e = untrimmed-facts t p ps (rw e at (sound-facts t q s))
+pub untrimmed : (t : List ℕ) (q : Queue) (p : Packet) (ps : List Packet) → Sound t q → waiting q ≡ p ∷ ps → Untrimmed t p
+untrimmed t q p ps s e =
+    untrimmed-facts t p ps (rw e at (sound-facts t q s)) (rw e at (sound-counted t q s))
+    (omega (arith, ap length e, length-waiting q, shape-is t q (s .shape) .queue .count))

@@ -5,20 +5,19 @@ use Prim.Native.Nat.{ℕ, zero, suc}
 use lib.ListN.{length}
 use Rattle.machine.specs.Table.{capacity, scratchWords}
 use Rattle.machine.specs.Queue.{Packet, waiting, taken}
-use Rattle.machine.specs.Packets.{changes}
 use Rattle.machine.specs.Calls.{Call, fresh, row, step, audit, read, write, applied, Store, store}
-use Rattle.machine.specs.Step.{applyChanges, unreached, swept, cleared, outcome, stepWith, stepFrom, stepped}
+use Rattle.machine.specs.Step.{applyPacket, unreached, swept, cleared, outcome, stepWith, stepFrom, stepped}
 use Rattle.machine.specs.Questions.{firstNo, questions}
 use Rattle.machine.specs.Machine.{accepted, answered, machine}
 use Rattle.soundness.specs.Variants.{applying, rightParts, stepOf, acceptedOf, answeredOf, machineOf}
 
-module _ (f : List ℕ → Packet → List Packet → List ℕ) (same : (t : List ℕ) (p : Packet) (ps : List Packet) → f t p ps ≡ applyChanges t (changes p)) where
+module _ (f : List ℕ → Packet → List ℕ) (same : (t : List ℕ) (p : Packet) → f t p ≡ applyPacket t p) where
   step-alike : (s : Store) (ps : List Packet) → stepOf (applying f) s ps ≡ stepFrom s ps
   unfolding stepOf stepFrom stepWith
   step-alike s [] = refl
   step-alike s (p ∷ ps) =
-      ap (λ (t : List ℕ). outcome (applied (p .kind) (length (unreached t ps)))
-      (store (swept t (unreached t ps)) (taken (s .queue)) (cleared (scratchWords (capacity t)) (s .scratch)))) (same (s .table) p ps)
+      ap (λ (t : List ℕ). outcome (applied (p .kind) (length (unreached t)))
+      (store (swept t (unreached t)) (taken (s .queue)) (cleared (scratchWords (capacity t)) (s .scratch)))) (same (s .table) p)
 
   accepted-alike : (s : Store) (call : Call) → acceptedOf (applying f) s call ≡ accepted s call
   unfolding acceptedOf accepted stepped
@@ -39,4 +38,4 @@ module _ (f : List ℕ → Packet → List Packet → List ℕ) (same : (t : Lis
 
 -- a variant differs from the machine in its parts only
 pub machineOf-right : (s : Store) (call : Call) → machineOf rightParts s call ≡ machine s call
-machineOf-right = alike (λ t p ps. applyChanges t (changes p)) (λ t p ps. refl)
+machineOf-right = alike applyPacket (λ t p. refl)

@@ -4,9 +4,9 @@ use mathlib.Core.Logic.{_≢_}
 use mathlib.Core.List.{List, [], _∷_}
 use Prim.Native.Nat.{ℕ}
 use Rattle.machine.specs.Queue.{Packet}
-use Rattle.machine.specs.Packets.{Kind, reads, makes, replaces, raises, lowers, unknown, kindOf, Counter, Direction, Change, rootDown, rootUp, cellUp, cellDown, changesOf, changes, movedBy}
+use Rattle.machine.specs.Packets.{Kind, reads, makes, replaces, raises, lowers, unknown, kindOf, Counter, Direction, Change, rootDown, rootUp, cellUp, cellDown, changesOf, changes, movedBy, minus}
 use Rattle.machine.specs.Calls.{Call, Store}
-use Rattle.machine.specs.Step.{applyChanges}
+use Rattle.machine.specs.Step.{applyChanges, named}
 use Rattle.machine.specs.Machine.{machine}
 use Rattle.soundness.specs.Links.{linksOf}
 use Rattle.soundness.specs.Variants.{Parts, applying, machineOf}
@@ -25,7 +25,7 @@ columnOrder p = columnOrderOf (kindOf (p .kind)) (p .a) (p .b)
 
 -- the machine that makes the changes in that order
 abbrev pub inColumnOrder : Parts
-inColumnOrder = applying (λ t p ps. applyChanges t (columnOrder p))
+inColumnOrder = applying (λ t p. named minus (applyChanges t (columnOrder p)) p)
 
 pub record SameInEitherOrder : Type 0 where
   -- "every reply, table and queue is the same as before", the scratch too: of one call, and of any list of calls. Document 02 asks for it on a sound

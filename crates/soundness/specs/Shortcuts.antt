@@ -3,7 +3,7 @@
 use mathlib.Core.Bool.{Bool, cond, not, _&&_, _||_}
 use mathlib.Core.List.{List, [], _∷_}
 use Prim.Native.Nat.{ℕ, suc, pred, _+_, _-_, min}
-use lib.Dec.{eqb}
+use lib.Dec.{ltb, eqb}
 use Rattle.machine.specs.declared.Queue.{Queue}
 use Rattle.machine.specs.Range.{every, select}
 use Rattle.machine.specs.Words.{isCell, ceiling}
@@ -11,9 +11,9 @@ use Rattle.machine.specs.Table.{rootCount, cellCount, capacity, wordAt, putWord
 use Rattle.machine.specs.Queue.{Packet, waiting}
 use Rattle.machine.specs.Packets.{Direction, plus, minus, Change, changes, uses}
 use Rattle.machine.specs.Counts.{heldAtLeast}
-use Rattle.machine.specs.Reached.{reached}
+use Rattle.machine.specs.Reached.{pointsTo, reachedBy}
 use Rattle.machine.specs.Calls.{Call, fresh, row, step, audit, read, write, car, cons, setLeft, setRight, up, down, Store, packetOf}
-use Rattle.machine.specs.Step.{counterWord, moveCount, applyChanges, unreached, joinAll, swept}
+use Rattle.machine.specs.Step.{counterWord, moveCount, applyChanges, named, applyPacket, unreached, joinAll, swept}
 use Rattle.machine.specs.Questions.{Question, ask, questions}
 use Rattle.machine.specs.Cases.{unmade}
 use Rattle.soundness.specs.Demand3.{Holds, tableAfter, queueAfter, holdsAfter, NoneOwed, RootsAreHolds, CellsArePointers, NoneLost, NoneLeft, ExactWhenDone, AuditsSound}
@@ -43,7 +43,7 @@ without n [] = []
 without n (k ∷ ks) = cond (eqb (k .number) n) (without n ks) (k ∷ without n ks)
 
 abbrev pub heldAtCeiling : Parts
-heldAtCeiling = record { asks = λ s call. without 9 (questions s call); applies = λ t p ps. applyHeld t (changes p); dead = unreached; frees = swept }
+heldAtCeiling = record { asks = λ s call. without 9 (questions s call); applies = λ t p. named minus (applyHeld t (changes p)) p; dead = unreached; frees = swept }
 
 -- 4,096 holds are gained and 4,095 given up; the cell is freed
 abbrev pub heldAtCeiling-calls : List Call
@@ -58,22 +58,22 @@ applyEager t (h ∷ hs) =
     applyEager (swept u (select (capacity u) (λ i. inUse u i && eqb (wordAt u i rootCount) 0 && eqb (wordAt u i cellCount) 0))) hs
 
 abbrev pub namedAsDead : Parts
-namedAsDead = applying (λ t p ps. applyEager t (changes p))
+namedAsDead = applying (λ t p. named minus (applyEager t (changes p)) p)
 
 -- cell 1 goes from a hold to cell 2, and is read from there: that packet waits and names it while its root count has fallen and its cell count
 -- has not risen yet
 abbrev pub namedAsDead-calls : List Call
 namedAsDead-calls = fresh 3 ∷ row (cons 0 0) ∷ row (cons 1 0) ∷ row (car 2) ∷ step ∷ step ∷ []
 
--- "Lowering x before raising the word read, and freeing in between": after the first change of a read.
-unfoldable pub applyParted : List ℕ → ℕ → List Change → List Packet → List ℕ
-applyParted t k [] ps = t
-applyParted t k (h ∷ hs) ps =
+-- "Lowering x before raising the word read, and freeing in between": after the first change of a read, which names its cells no longer.
+unfoldable pub applyParted : List ℕ → ℕ → List Change → List ℕ
+applyParted t k [] = t
+applyParted t k (h ∷ hs) =
     let u = moveCount t (h .counter) (h .word) (h .direction) (h .amount) in
-    applyChanges (cond (eqb k 1) (swept u (unreached u ps)) u) hs
+    applyChanges (cond (eqb k 1) (swept u (unreached u)) u) hs
 
 abbrev pub freedInBetween : Parts
-freedInBetween = applying (λ t p ps. applyParted t (p .kind) (changes p) ps)
+freedInBetween = applying (λ t p. applyParted (named minus t p) (p .kind) (changes p))
 
 -- the word read is reached through x alone
 abbrev pub freedInBetween-calls : List Call
@@ -97,7 +97,7 @@ asksOneHold s (read text) = questions s (read text)
 asksOneHold s (write w room) = questions s (write w room)
 
 abbrev pub oneHoldForBoth : Parts
-oneHoldForBoth = record { asks = asksOneHold; applies = λ t p ps. applyChanges t (changes p); dead = unreached; frees = swept }
+oneHoldForBoth = record { asks = asksOneHold; applies = applyPacket; dead = unreached; frees = swept }
 
 -- one hold is given up twice, more than was gained: `NoneOwed` breaks at once, before any cell is lost
 abbrev pub oneHoldForBoth-calls : List Call
@@ -105,7 +105,7 @@ oneHoldForBoth-calls = fresh 3 ∷ row (cons 0 0) ∷ row (cons 1 1) ∷ []
 
 -- "Leaving the children's cell counts when a ring is freed".
 abbrev pub childrenLeft : Parts
-childrenLeft = record { asks = questions; applies = λ t p ps. applyChanges t (changes p); dead = unreached; frees = joinAll }
+childrenLeft = record { asks = questions; applies = applyPacket; dead = unreached; frees = joinAll }
 
 -- cell 2 points to the held cell 1 and to itself, and is let go
 abbrev pub childrenLeft-calls : List Call
@@ -117,8 +117,8 @@ childrenLeft-calls =
 abbrev pub unprotected : Parts
 unprotected = record {
   asks = questions;
-  applies = λ t p ps. applyChanges t (changes p);
-  dead = λ t ps. select (capacity t) (λ i. inUse t i && not (reached t [] i));
+  applies = applyPacket;
+  dead = λ t. select (capacity t) (λ i. inUse t i && not (reachedBy (capacity t) (λ j. ltb 0 (wordAt t j rootCount)) (pointsTo t) i));
   frees = swept;
 }
 
@@ -128,7 +128,7 @@ unprotected-calls = fresh 3 ∷ row (cons 0 0) ∷ row (cons 1 0) ∷ row (up 2 
 
 -- "A step that applies packets and frees nothing".
 abbrev pub freesNothing : Parts
-freesNothing = record { asks = questions; applies = λ t p ps. applyChanges t (changes p); dead = λ t ps. []; frees = swept }
+freesNothing = record { asks = questions; applies = applyPacket; dead = λ t. []; frees = swept }
 
 -- cell 1 is let go, and no packet waits any more
 abbrev pub freesNothing-calls : List Call

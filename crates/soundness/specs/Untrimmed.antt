@@ -2,13 +2,13 @@
 use mathlib.Core.Path.{_≡_}
 use mathlib.Core.List.{List, _∷_}
 use Prim.Native.Nat.{ℕ, suc, _≤_, _<_}
-use lib.ListN.{drop}
-use Rattle.machine.specs.Range.{matching}
+use lib.ListN.{set, drop}
+use Rattle.machine.specs.Range.{matching, occurrences}
 use Rattle.machine.specs.Words.{ceiling}
-use Rattle.machine.specs.Table.{rootCount, cellCount, capacity, wordAt}
+use Rattle.machine.specs.Table.{rootCount, cellCount, nameCount, capacity, wordAt}
 use Rattle.machine.specs.Queue.{Packet, packet, emptyQueue, appended}
-use Rattle.machine.specs.Packets.{Kind, reads, makes, replaces, raises, lowers, unknown, kindOf, Counter, cell, Direction, plus, minus, Change, changes}
-use Rattle.machine.specs.Step.{counterWord, applyChanges, unreached}
+use Rattle.machine.specs.Packets.{Kind, reads, makes, replaces, raises, lowers, unknown, kindOf, Counter, cell, Direction, plus, minus, Change, changes, names}
+use Rattle.machine.specs.Step.{counterWord, applyChanges, applyPacket, unreached}
 use Rattle.machine.specs.Audit.{Sound}
 use Rattle.machine.specs.Stages.{stage}
 use Rattle.machine.specs.WrongAnswers.{crowded}
@@ -28,8 +28,8 @@ ByItself raises a b x = ⊥
 ByItself lowers a b x = ⊥
 ByItself unknown a b x = ⊥
 
--- a step that takes the packet p from a table t, with ps waiting behind it; a stage is the table when the first n changes are made
-pub record Untrimmed (t : List ℕ) (p : Packet) (ps : List Packet) : Type 0 where
+-- a step that takes the packet p from a table t; a stage is the table when the first n changes are made
+pub record Untrimmed (t : List ℕ) (p : Packet) : Type 0 where
   -- no lowering meets a count too low for it: h is the change that follows the first n
   pub lowers : (n : ℕ) (h : Change) (hs : List Change) → drop n (changes p) ≡ h ∷ hs → (i : ℕ) → i < capacity t
       → Lowers (h .direction) (wordAt (stage t p n) i (counterWord (h .counter))) (matching (h .word) (suc i) (h .amount))
@@ -41,11 +41,12 @@ pub record Untrimmed (t : List ℕ) (p : Packet) (ps : List Packet) : Type 0 whe
   -- after the packet every count is at most 4,095
   pub roots : (i : ℕ) → i < capacity t → wordAt (applyChanges t (changes p)) i rootCount ≤ ceiling
   pub cells : (i : ℕ) → i < capacity t → wordAt (applyChanges t (changes p)) i cellCount ≤ ceiling
+  -- no name count is below what the packet gives up
+  pub unnaming : (i : ℕ) → i < capacity t → occurrences (suc i) (names p) ≤ wordAt (applyChanges t (changes p)) i nameCount
   -- and no cell has a count below the pointers to it that the freed cells hold
-  pub freeing : (i : ℕ) → i < capacity t
-      → pointersOut (applyChanges t (changes p)) (unreached (applyChanges t (changes p)) ps) (suc i) ≤ wordAt (applyChanges t (changes p)) i cellCount
+  pub freeing : (i : ℕ) → i < capacity t → pointersOut (applyPacket t p) (unreached (applyPacket t p)) (suc i) ≤ wordAt (applyPacket t p) i cellCount
 
--- and a count does stand at 4,096: of 2,048 cells 4,095 fields point to the first, and a replace of it by itself waits
+-- and a count does stand at 4,096: of 2,048 cells 4,095 fields point to the first, and a replace of it by itself waits, which names it three times
 pub record Stands : Type 0 where
-  pub sound : Sound (crowded 2047 0 2) (appended emptyQueue (packet 3 1 1 1))
-  pub at-4096 : wordAt (stage (crowded 2047 0 2) (packet 3 1 1 1) 2) 0 cellCount ≡ suc ceiling
+  pub sound : Sound (set (crowded 2047 0 2) 8 3) (appended emptyQueue (packet 3 1 1 1))
+  pub at-4096 : wordAt (stage (set (crowded 2047 0 2) 8 3) (packet 3 1 1 1) 2) 0 cellCount ≡ suc ceiling

@@ -4,9 +4,8 @@ use Prim.Native.Nat.{ℕ, zero, suc}
 use lib.ListN.{length}
 use Rattle.machine.specs.Table.{capacity, scratchWords}
 use Rattle.machine.specs.Queue.{Packet, taken, waiting}
-use Rattle.machine.specs.Packets.{changes}
 use Rattle.machine.specs.Calls.{Call, fresh, row, step, audit, read, write, idle, applied, refused, Store, store}
-use Rattle.machine.specs.Step.{applyChanges, unreached, swept, cleared, Outcome, outcome}
+use Rattle.machine.specs.Step.{applyPacket, unreached, swept, cleared, Outcome, outcome}
 use Rattle.machine.specs.Questions.{Question, firstNo, questions}
 use Rattle.machine.specs.Machine.{accepted}
 
@@ -14,24 +13,24 @@ use Rattle.machine.specs.Machine.{accepted}
 pub record Parts : Type 0 where
   -- the questions before a call
   pub asks : Store → Call → List Question
-  -- the table when a packet is applied, with others waiting behind it
-  pub applies : List ℕ → Packet → List Packet → List ℕ
+  -- the table when a packet is applied and names its cells no longer
+  pub applies : List ℕ → Packet → List ℕ
   -- the cells to free, and the table when they are freed
-  pub dead : List ℕ → List Packet → List ℕ
+  pub dead : List ℕ → List ℕ
   pub frees : List ℕ → List ℕ → List ℕ
 
 -- the machine's own, but for how a packet is applied; and with that, too
-abbrev pub applying : (List ℕ → Packet → List Packet → List ℕ) → Parts
+abbrev pub applying : (List ℕ → Packet → List ℕ) → Parts
 applying f = record { asks = questions; applies = f; dead = unreached; frees = swept }
 
 abbrev pub rightParts : Parts
-rightParts = applying (λ t p ps. applyChanges t (changes p))
+rightParts = applying applyPacket
 
 unfoldable pub stepOf : Parts → Store → List Packet → Outcome
 stepOf m s [] = outcome idle s
 stepOf m s (p ∷ ps) =
-    let t = m .applies (s .table) p ps in
-    let d = m .dead t ps in
+    let t = m .applies (s .table) p in
+    let d = m .dead t in
     outcome (applied (p .kind) (length d)) (store (m .frees t d) (taken (s .queue)) (cleared (scratchWords (capacity t)) (s .scratch)))
 
 unfoldable pub acceptedOf : Parts → Store → Call → Outcome

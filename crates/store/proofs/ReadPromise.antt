@@ -33,10 +33,12 @@ use Rattle.soundness.proofs.Facts.{sound-facts}
 use Rattle.soundness.proofs.FreeCells.{chain-length}
 use Rattle.soundness.proofs.CallSound.{built-whole}
 use Rattle.calls.specs.Tests.{codeQuestions}
-use Rattle.calls.specs.Called.{outcomeOf}
+use Rattle.calls.specs.Called.{codeAccepted, outcomeOf}
+use Rattle.calls.proofs.RowLaws.{fitted-accepted}
 use Rattle.reader.specs.Builds.{codeCons}
 use Rattle.reader.specs.Called.{chainHas, readQuestions, readDone, readOutcome, ReadCalled}
 use Rattle.store.proofs.RowTests.{questions-same}
+use Rattle.store.proofs.NamesFit.{names-fit}
 use Rattle.store.proofs.RowPromise.{outcome-bounded}
 
 -- question 8: going along the free chain finds as many cells as are free
@@ -56,12 +58,19 @@ free-same t q s n =
 
 -- a cons of the code is the machine's on a sound store
 cons-same : (s : Store) (x y : ℕ) → s .scratch ≡ [] → Whole (s .table) (s .queue) → codeCons s x y ≡ consed s x y
-unfolding outcomeOf consed answered accepted
+unfolding outcomeOf consed
 cons-same s x y e w =
     let t = s .table in
     let q = s .queue in
-    ap (λ (n : ℕ). refusedOr n (store t q []) (acceptedRow (store t q []) (cons x y))) (questions-same t q (w .sound) (w .arrays) (cons x y))
+    ap (λ (n : ℕ). refusedOr n (store t q []) (codeAccepted t q (cons x y))) (questions-same t q (w .sound) (w .arrays) (cons x y))
+    ∙ go (firstNo (questions (store t q []) (row (cons x y)))) refl
     ∙ ap (λ (l : List ℕ). consed (store t q l) x y) (sym e)
+  where
+    go : (n : ℕ) → firstNo (questions (store (s .table) (s .queue) []) (row (cons x y))) ≡ n
+        → refusedOr n (store (s .table) (s .queue) []) (codeAccepted (s .table) (s .queue) (cons x y))
+        ≡ refusedOr n (store (s .table) (s .queue) []) (acceptedRow (store (s .table) (s .queue) []) (cons x y))
+    go zero d = unfold accepted in fitted-accepted (s .table) (s .queue) (cons x y) (names-fit (s .table) (s .queue) (w .sound) (w .arrays) (cons x y) d)
+    go (suc n) d = refl
 
 no-words : (l : List ℕ) → length l ≡ 0 → l ≡ []
 no-words [] e = refl

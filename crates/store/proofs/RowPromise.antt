@@ -16,14 +16,15 @@ use Rattle.machine.specs.Questions.{firstNo, early, askFree, lateQueued, lateRo
 use Rattle.machine.specs.Machine.{accepted, answered, machine}
 use Rattle.machine.specs.Answers.{rowReply, freshReply}
 use Rattle.machine.specs.Promise.{Decided, Untouched, numbers, Promise}
-use Rattle.machine.proofs.Range.{tested}
+use Rattle.machine.proofs.Range.{tested, not-both}
 use Rattle.machine.proofs.NilReads.{late-queued}
 use Rattle.machine.proofs.Questions.{AllYes, firstNo-append, firstNo-none, firstNo-number, firstNo-all, early-numbered}
-use Rattle.machine.proofs.Kept.{machine-accepted, machine-refused, kept, bounded-accepted, bounded-same}
+use Rattle.machine.proofs.Kept.{machine-accepted, machine-refused, kept, bounded-same}
 use Rattle.calls.specs.Tests.{freeByEnd, codeLate, codeLateRow, codeQuestions}
-use Rattle.calls.specs.Called.{outcomeOf, RowCalled, FreshCalled}
-use Rattle.calls.proofs.RowLaws.{nil-late, code-nil, outcome-refused, outcome-done}
+use Rattle.calls.specs.Called.{NamesFit, codeAccepted, outcomeOf, RowCalled, FreshCalled}
+use Rattle.calls.proofs.RowLaws.{nil-late, code-nil, outcome-refused, outcome-done, fitted-accepted, code-untouched}
 use Rattle.store.proofs.RowTests.{queued-late, questions-same}
+use Rattle.store.proofs.NamesFit.{names-fit}
 
 -- the code's later questions carry the paper's numbers
 queued-numbers : (t : List ℕ) (q : Queue) (r : RowCall) → numbers (codeLate t q (packetOf t r)) ≡ numbers (lateQueued t q r)
@@ -54,7 +55,7 @@ outcome-bounded t q r = go (firstNo (codeQuestions t q r)) refl
     yes d (suc m) e = absurd (omega (arith, firstNo-append (early s (row r)) (codeLateRow t q r) m e))
 
     go : (n : ℕ) → firstNo (codeQuestions t q r) ≡ n → Untouched s (outcomeOf t q r .after)
-    go zero d = rw (outcome-done t q r d) (bounded-accepted s (row r) (yes d (firstNo (early s (row r))) refl))
+    go zero d = rw (outcome-done t q r d) (code-untouched t q r (yes d (firstNo (early s (row r))) refl))
     go (suc n) d = rw (outcome-refused t q r n d) (bounded-same s (row r))
 
 module _ (t : List ℕ) (q : Queue) (r : RowCall) (a : RowAnswer) (t′ : List ℕ) (q′ : Queue) (h : RowCalled t q r a t′ q′) where
@@ -72,9 +73,9 @@ module _ (t : List ℕ) (q : Queue) (r : RowCall) (a : RowAnswer) (t′ : List �
         ap₂ (λ (u : List ℕ) (v : Queue). store u v []) (h .table ∙ ap (λ (x : Outcome). x .after .table) o) (h .queue ∙ ap (λ (x : Outcome). x .after .queue) o),
       )
 
-  -- or done as the machine does it
-  done-whole : firstNo (codeQuestions t q r) ≡ 0 → (rowReply a ≡ accepted s (row r) .reply) × (s′ ≡ accepted s (row r) .after)
-  unfolding accepted
+  -- or done
+  done-whole : firstNo (codeQuestions t q r) ≡ 0 → (rowReply a ≡ codeAccepted t q r .reply) × (s′ ≡ codeAccepted t q r .after)
+  unfolding codeAccepted
   done-whole e =
       let o = outcome-done t q r e in (
         h .reply ∙ ap (λ (x : Outcome). x .reply) o,
@@ -86,7 +87,7 @@ module _ (t : List ℕ) (q : Queue) (r : RowCall) (a : RowAnswer) (t′ : List �
   row-asked n e = refused-whole n (firstNo-append (early s (row r)) (codeLateRow t q r) n e)
 
   row-refusal : (n : ℕ) → firstNo (early s (row r)) ≡ 0 → rowReply a ≡ refused n → (contains (numbers (late s (row r))) n ≡ true) × (s′ ≡ s)
-  unfolding codeQuestions late accepted
+  unfolding codeQuestions late codeAccepted
   row-refusal n e k = go (firstNo (codeLateRow t q r)) refl
     where
       whole : firstNo (codeQuestions t q r) ≡ firstNo (codeLateRow t q r)
@@ -111,8 +112,12 @@ module _ (t : List ℕ) (q : Queue) (r : RowCall) (a : RowAnswer) (t′ : List �
       e : firstNo (questions s (row r)) ≡ firstNo (codeQuestions t q r)
       e = sym (⊎-elim (λ sound. questions-same t q sound arrays r) (λ n. ap firstNo (code-nil t q r n)) decided)
 
+      -- on a sound store the names fit, and a read of nil has none
+      fits : firstNo (questions s (row r)) ≡ 0 → NamesFit t r
+      fits d = ⊎-elim (λ sound. names-fit t q sound arrays r d) (λ n k. absurd (not-both n k)) decided
+
       go : (n : ℕ) → firstNo (codeQuestions t q r) ≡ n → (rowReply a ≡ machine s (row r) .reply) × (s′ ≡ machine s (row r) .after)
-      go zero d = rw (machine-accepted s (row r) (e ∙ d)) (done-whole d)
+      go zero d = rw (machine-accepted s (row r) (e ∙ d), sym (fitted-accepted t q r (fits (e ∙ d)))) (done-whole d)
       go (suc n) d = rw (machine-refused s (row r) n (e ∙ d)) (refused-whole n d)
 
   row-bounded : Untouched s s′

@@ -49,17 +49,16 @@ raised-contains k x (h ∷ hs) l = ⊎-elim (λ b. raised b (raised-contains k x
         let m : 0 < 0 + movedBy k plus x hs = rw b at l in
         rw b (ih (omega arith))
 
--- on a sound store each counter with its waiting changes is within the ceiling before a call
-within-before : (t : List ℕ) (q : Queue) → Sound t q → (k : Counter) (i : ℕ) → i < capacity t
+-- on a sound store each counter of a call's changes is with its waiting changes within the ceiling before the call
+Within : List ℕ → Queue → Counter → Type 0
+Within t q k = (i : ℕ) → i < capacity t
     → wordAt t i (counterWord k) + waitingChange k plus (suc i) (waiting q) ≤ ceiling + waitingChange k minus (suc i) (waiting q)
-within-before t q s root i l = held-most t q s i l
-within-before t q s cell i l = omega (arith, pointers-counted t q s i l, pointers-most t q s i l)
 
 -- the code's test for questions 9 and 10, as plain facts
-raised-is : (t : List ℕ) (q : Queue) → Sound t q → (p : Packet) (k : Counter)
+raised-is : (t : List ℕ) (q : Queue) (p : Packet) (k : Counter) → Within t q k
     → (raisedWithin k t (waiting q) p ≡ true) ↔ ((i : ℕ) → i < capacity t → 0 < movedBy k plus (suc i) (changes p) → Fits k (wordAt t i (counterWord k)) (suc i) (waiting q) p)
-unfolding raisedWithin countWithin
-raised-is t q s p k = (there, back)
+unfolding raisedWithin countWithin Within
+raised-is t q p k before = (there, back)
   where
     ps : List Packet
     ps = waiting q
@@ -85,7 +84,7 @@ raised-is t q s p k = (there, back)
         inside : (w : ℕ) → isCell (capacity t) w ≡ true → test w ≡ true
         inside w e =
             let l = cell-index (capacity t) w e in
-            rw e (le-leb (up (pred w)) (down (pred w)) (⊎-elim (λ m. f (pred w) l m) (λ z. omega (arith, within-before t q s k (pred w) l)) (lt-or-ge 0 (movedBy k plus (suc (pred w)) (changes p)))))
+            rw e (le-leb (up (pred w)) (down (pred w)) (⊎-elim (λ m. f (pred w) l m) (λ z. omega (arith, before (pred w) l)) (lt-or-ge 0 (movedBy k plus (suc (pred w)) (changes p)))))
 
 -- question 8: the first free end against the free cells
 free-same : (t : List ℕ) (q : Queue) → Sound t q → (r : RowCall) → freeByEnd (kindOf (packetOf t r .kind)) t ≡ askFree t r
@@ -135,13 +134,13 @@ module _ (t : List ℕ) (q : Queue) (s : Sound t q) (a : Arrays q) (r : RowCall)
 
   nine : AllYes before → raisedWithin root t (waiting q) p ≡ heldWithin (written t r) (waiting (appended q p))
   nine y =
-      let code = raised-is t q s p root in
+      let code = raised-is t q p root (unfold Within in held-most t q s) in
       let paper = question9 t q s r yes (held-test t (waiting q) p (y .0)) (y .1 .1) a (slot (y .1 .0)) in
       bool-same (raisedWithin root t (waiting q) p) (heldWithin (written t r) (waiting (appended q p))) (λ h. paper .1 (code .0 h)) (λ h. code .1 (paper .0 h))
 
   ten : AllYes before → raisedWithin cell t (waiting q) p ≡ pointersWithin (written t r)
   ten y =
-      let code = raised-is t q s p cell in
+      let code = raised-is t q p cell (unfold Within in λ i l. omega (arith, pointers-counted t q s i l, pointers-most t q s i l)) in
       let paper = question10 t q s r yes (held-test t (waiting q) p (y .0)) (y .1 .1) in
       bool-same (raisedWithin cell t (waiting q) p) (pointersWithin (written t r)) (λ h. paper .1 (code .0 h)) (λ h. code .1 (paper .0 h))
 

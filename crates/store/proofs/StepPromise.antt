@@ -28,7 +28,7 @@ use Rattle.machine.proofs.Kept.{machine-accepted, machine-refused}
 use Rattle.soundness.proofs.Untrimmed.{untrimmed}
 use Rattle.soundness.proofs.ShortWay.{nothing-freed}
 use Rattle.collector.specs.declared.Stepped.{Stepped}
-use Rattle.collector.specs.Changes.{ChangesFit}
+use Rattle.counts.specs.Changes.{ChangesFit}
 use Rattle.collector.specs.Steps.{oldest, Premises, Steps}
 
 -- a table whose counts stand within a word after each of the changes fits them

@@ -19,14 +19,14 @@ pub fn fresh(table: &mut [u16], queue: Queue, c: u16) -> FreshReply
     calls::fresh(table, queue, c)
 }
 
-pub fn car(table: &[u16], queue: Queue, x: u16) -> RowReply
-    ensures { λ r. ⌜ Promise (store (now (table .entry)) queue []) (row (car x)) (rowReply (r .answer)) (store (now (table .entry)) (r .queue) []) ⌝ }
+pub fn car(table: &mut [u16], queue: Queue, x: u16) -> RowReply
+    ensures { λ r. ⌜ Promise (store (now (table .entry)) queue []) (row (car x)) (rowReply (r .answer)) (store (now (table .exit)) (r .queue) []) ⌝ }
 {
     calls::car(table, queue, x)
 }
 
-pub fn cdr(table: &[u16], queue: Queue, x: u16) -> RowReply
-    ensures { λ r. ⌜ Promise (store (now (table .entry)) queue []) (row (cdr x)) (rowReply (r .answer)) (store (now (table .entry)) (r .queue) []) ⌝ }
+pub fn cdr(table: &mut [u16], queue: Queue, x: u16) -> RowReply
+    ensures { λ r. ⌜ Promise (store (now (table .entry)) queue []) (row (cdr x)) (rowReply (r .answer)) (store (now (table .exit)) (r .queue) []) ⌝ }
 {
     calls::cdr(table, queue, x)
 }
@@ -49,14 +49,14 @@ pub fn set_right(table: &mut [u16], queue: Queue, x: u16, y: u16) -> RowReply
     calls::set_right(table, queue, x, y)
 }
 
-pub fn up(table: &[u16], queue: Queue, x: u16, n: u16) -> RowReply
-    ensures { λ r. ⌜ Promise (store (now (table .entry)) queue []) (row (up x n)) (rowReply (r .answer)) (store (now (table .entry)) (r .queue) []) ⌝ }
+pub fn up(table: &mut [u16], queue: Queue, x: u16, n: u16) -> RowReply
+    ensures { λ r. ⌜ Promise (store (now (table .entry)) queue []) (row (up x n)) (rowReply (r .answer)) (store (now (table .exit)) (r .queue) []) ⌝ }
 {
     calls::up(table, queue, x, n)
 }
 
-pub fn down(table: &[u16], queue: Queue, x: u16, n: u16) -> RowReply
-    ensures { λ r. ⌜ Promise (store (now (table .entry)) queue []) (row (down x n)) (rowReply (r .answer)) (store (now (table .entry)) (r .queue) []) ⌝ }
+pub fn down(table: &mut [u16], queue: Queue, x: u16, n: u16) -> RowReply
+    ensures { λ r. ⌜ Promise (store (now (table .entry)) queue []) (row (down x n)) (rowReply (r .answer)) (store (now (table .exit)) (r .queue) []) ⌝ }
 {
     calls::down(table, queue, x, n)
 }

@@ -45,7 +45,8 @@ fn every_call(list: &mut List, title: &str, store: &Store) -> io::Result<()> {
 
 pub fn question_1(list: &mut List) -> io::Result<()> {
     let sample = sample();
-    for length in [0, 1, 2, 3, 4, 7, 8, 12, 13, 42, 43, 44, 48] {
+    // Enough for 1, 2 and 8 cells are 9, 15 and 51; before A6 8, 13 and 43 were.
+    for length in [0, 1, 2, 3, 4, 8, 9, 13, 14, 15, 43, 50, 51, 52, 57] {
         let mut store = sample.clone();
         store.table.resize(length, 12_345);
         every_call(list, &format!("table of {length} words"), &store)?;
@@ -83,6 +84,8 @@ fn long_tables(list: &mut List) -> io::Result<()> {
         (4_096, length(4_096) + 2),
         (4_095, length(4_096) - 1),
         (4_097, length(4_097)),
+        // Enough before A6.
+        (4_096, 3 + 5 * 4_096),
         (0, length(4_096)),
     ] {
         let mut store = Store::zeroed(length, 4_096);

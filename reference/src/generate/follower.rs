@@ -239,6 +239,29 @@ impl Follower {
         }
     }
 
+    /// A call whose packet names a cell as often as can be, as a rule accepted: up
+    /// where there are too few holds for more, now and then a down of all of them,
+    /// after which only packets may keep the cell.
+    pub fn naming_call(&mut self, rng: &mut Rng) -> Call {
+        let Some(x) = self.held_cell(rng) else {
+            return if self.no_free_cell() {
+                Call::Step
+            } else {
+                Call::Cons(NIL, NIL)
+            };
+        };
+        let holds = self.holds(x);
+        match rng.below(9) {
+            0 if holds < 200 => Call::Up(x, rng.within(1, 4)),
+            1 => Call::Down(x, holds),
+            2 => rng.pick(&[Call::Car(x), Call::Cdr(x)]),
+            _ if holds < 2 => Call::Up(x, rng.within(1, 4)),
+            3 if !self.no_free_cell() => Call::Cons(x, x),
+            4 => rng.pick(&[Call::ReplaceLeft(x, NIL), Call::ReplaceRight(x, NIL)]),
+            _ => rng.pick(&[Call::ReplaceLeft(x, x), Call::ReplaceRight(x, x)]),
+        }
+    }
+
     /// A call that this question refuses, if the store as it is allows one to
     /// be found easily.
     pub fn refused_call(&self, rng: &mut Rng, question: usize) -> Option<Call> {

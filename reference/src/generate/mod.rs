@@ -10,12 +10,15 @@ pub mod edges;
 pub mod follower;
 pub mod known;
 pub mod list;
+pub mod named;
+pub mod recount;
 pub mod rings;
 pub mod rng;
 pub mod rows;
 pub mod session;
 pub mod sound;
 pub mod texts;
+pub mod woven;
 
 use list::List;
 use rng::Rng;
@@ -46,7 +49,7 @@ pub fn run(arguments: &[&str], mut output: impl Write) -> io::Result<()> {
     output.flush()
 }
 
-pub const LISTS: [&str; 32] = [
+pub const LISTS: [&str; 33] = [
     "s1",
     "s2",
     "s3",
@@ -67,6 +70,7 @@ pub const LISTS: [&str; 32] = [
     "rings",
     "wrecks",
     "clipped",
+    "named",
     "text-short",
     "text-bytes",
     "text-random",
@@ -106,10 +110,11 @@ pub fn write_list(
         "large" => sound::large(rng, list, cases),
         "known" => known::known(list),
         "rows" => rows::rows(rng, list, cases),
-        "ceilings" => rows::ceilings(rng, list),
-        "rings" => rings::rings(list),
+        "ceilings" => rows::ceilings(rng, list, cases),
+        "rings" => rings::rings(list, cases),
         "wrecks" => damaged::wrecks(rng, list, cases),
         "clipped" => clipped::clipped(rng, list),
+        "named" => named::named(rng, list, cases),
         "text-short" => texts::short(rng, list),
         "text-bytes" => texts::bytes(rng, list),
         "text-random" => texts::texts(rng, list, cases),

@@ -5,17 +5,20 @@ use std::io;
 
 use super::atoms::{FIRST_CLIPPED, LAST_STORED};
 use super::list::{word, List};
+use super::recount::recounted;
 use crate::call::Call;
 use crate::queue::{self, Packet};
 use crate::store::Store;
 use crate::table::*;
 
-pub fn rings(list: &mut List) -> io::Result<()> {
-    for cells in [1, 2, 3, 63, 64, 65, MAX_CELLS] {
+/// At most so many of the seven sizes.
+pub fn rings(list: &mut List, cases: usize) -> io::Result<()> {
+    let sizes = [1, 2, 3, 63, 64, 65, MAX_CELLS];
+    for cells in sizes.into_iter().take(cases) {
         ring(list, cells)?;
         chain(list, cells)?;
         if cells > 1 {
-            tree(list, cells)?;
+            tree(list, cells.min(1_000))?;
             fans(list, cells)?;
         }
     }
@@ -45,7 +48,7 @@ fn waiting(mut store: Store, x: u16, holds: u16, packets: &[[u16; 4]]) -> Store 
     for &[kind, a, b, c] in packets {
         store.queue.push(Packet { kind, a, b, c });
     }
-    store
+    recounted(store)
 }
 
 /// As many steps as packets wait and one more, with audits; then the first

@@ -112,14 +112,14 @@ fn fill_queue(rng: &mut Rng, follower: &mut Follower) {
 }
 
 /// Stores in which cell 1 is at 4,094 pointers, with the calls around that
-/// ceiling and around 4,095 holds.
-pub fn ceilings(rng: &mut Rng, list: &mut List) -> io::Result<()> {
-    for (title, cells, waiting) in [
-        ("none waiting", 2_100, 0),
+/// ceiling and around 4,095 holds; at most so many of the three.
+pub fn ceilings(rng: &mut Rng, list: &mut List, cases: usize) -> io::Result<()> {
+    let stores = [
         ("17 packets waiting", 2_100, 17),
-        ("no cell free", 2_048, 0),
         ("queue nearly full", 2_060, 62),
-    ] {
+        ("no cell free", 2_048, 0),
+    ];
+    for (title, cells, waiting) in stores.into_iter().take(cases) {
         let mut follower = crowd(cells, waiting);
         follower.store.table.extend([rng.word(), rng.word()]);
         follower.store.scratch.fill(rng.word());
@@ -131,12 +131,15 @@ pub fn ceilings(rng: &mut Rng, list: &mut List) -> io::Result<()> {
         }
         // From 4,095 pointers again, in the right field.
         for call in [
+            Call::Up(1, 20),
             Call::ReplaceRight(3, 1),
             Call::ReplaceRight(4, 1),
             Call::ReplaceLeft(4, NIL),
             Call::ReplaceRight(3, 1),
             Call::ReplaceRight(3, 1),
+            Call::Cons(1, NIL),
             Call::ReplaceLeft(4, 1),
+            Call::Cons(NIL, 1),
         ] {
             list.brief(call)?;
         }

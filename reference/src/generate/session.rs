@@ -15,11 +15,12 @@ const CELL_NUMBERS: [u16; 7] = [1, 2, 3, 63, 64, 65, 4_096];
 /// What a session is mostly made of.
 struct Style {
     mix: Mix,
-    /// One line in so many is a call to be refused, a bad line, a fresh; 0 for
-    /// none.
+    /// One line in so many is a call to be refused, a bad line, a fresh, one that
+    /// names a cell several times; 0 for none.
     refused: usize,
     bad: usize,
     fresh: usize,
+    naming: usize,
 }
 
 const BALANCED: Mix = Mix {
@@ -38,6 +39,7 @@ fn style(name: &str) -> Option<Style> {
         refused: 12,
         bad: 0,
         fresh: 0,
+        naming: 0,
     };
     Some(match name {
         "lively" | "ceiling" => lively,
@@ -69,6 +71,10 @@ fn style(name: &str) -> Option<Style> {
             ..lively
         },
         "bad" => Style { bad: 3, ..lively },
+        "named" => Style {
+            naming: 2,
+            ..lively
+        },
         "mixed" => Style {
             bad: 25,
             fresh: 400,
@@ -78,8 +84,8 @@ fn style(name: &str) -> Option<Style> {
     })
 }
 
-pub const STYLES: [&str; 8] = [
-    "lively", "full", "rings", "refusals", "freshes", "bad", "mixed", "ceiling",
+pub const STYLES: [&str; 9] = [
+    "lively", "full", "rings", "refusals", "freshes", "bad", "mixed", "named", "ceiling",
 ];
 
 /// A session of `lines` lines in a store of `cells` cells. `ceiling` begins
@@ -149,6 +155,8 @@ impl<W: Write> Session<'_, W> {
         }
         let call = if now(rng, style.fresh) {
             Call::Fresh(rng.pick(&CELL_NUMBERS))
+        } else if now(rng, style.naming) {
+            self.follower.naming_call(rng)
         } else if now(rng, style.refused) {
             let question = rng.pick(&QUESTIONS);
             match self.follower.refused_call(rng, question) {

@@ -20,6 +20,7 @@ pub struct Cell {
     pub root: u16,
     pub count: u16,
     pub state: u16,
+    pub named: u16,
 }
 
 /// Kind, a, b, c.
@@ -35,14 +36,15 @@ pub struct Model {
 pub fn model(store: &Store) -> Model {
     let mut cells = BTreeMap::new();
     for x in 1..=store.table[0] {
-        let base = 3 + 5 * (x as usize - 1);
-        let words = &store.table[base..base + 5];
+        let base = 3 + 6 * (x as usize - 1);
+        let words = &store.table[base..base + 6];
         let cell = Cell {
             left: words[0],
             right: words[1],
             root: words[2],
             count: words[3],
             state: words[4],
+            named: words[5],
         };
         cells.insert(x, cell);
     }
@@ -66,12 +68,13 @@ fn slot_words(queue: &Queue, slot: usize) -> Packet {
 
 fn put_cells(store: &mut Store, model: &Model) {
     for (&x, cell) in &model.cells {
-        let base = 3 + 5 * (x as usize - 1);
+        let base = 3 + 6 * (x as usize - 1);
         store.table[base] = cell.left;
         store.table[base + 1] = cell.right;
         store.table[base + 2] = cell.root;
         store.table[base + 3] = cell.count;
         store.table[base + 4] = cell.state;
+        store.table[base + 5] = cell.named;
     }
 }
 
@@ -141,21 +144,34 @@ impl Model {
         found
     }
 
-    fn named(&self) -> BTreeSet<u16> {
-        let mut named = BTreeSet::new();
+    /// The cells that waiting packets name, each as often as they do: once for
+    /// each place. Kinds 4 and 5 name a only.
+    pub fn places(&self) -> Vec<u16> {
+        let mut places = Vec::new();
         for &[kind, a, b, c] in &self.packets {
-            let words = if kind == 4 || kind == 5 {
-                vec![a]
-            } else {
-                vec![a, b, c]
-            };
-            for word in words {
-                if self.cells.contains_key(&word) {
-                    named.insert(word);
-                }
+            places.push(a);
+            if kind != 4 && kind != 5 {
+                places.push(b);
+                places.push(c);
             }
         }
-        named
+        places.retain(|word| self.cells.contains_key(word));
+        places
+    }
+
+    /// What the sixth words (A6) are to be, from the packets alone.
+    pub fn times_named(&self) -> BTreeMap<u16, u16> {
+        let mut times: BTreeMap<u16, u16> = self.cells.keys().map(|&x| (x, 0)).collect();
+        for x in self.places() {
+            *times.get_mut(&x).unwrap() += 1;
+        }
+        times
+    }
+
+    fn recount(&mut self) {
+        for (x, times) in self.times_named() {
+            self.cells.get_mut(&x).unwrap().named = times;
+        }
     }
 
     /// Everything reached from these cells, by passes over all cells until a
@@ -181,7 +197,8 @@ impl Model {
     }
 
     fn reached(&self) -> BTreeSet<u16> {
-        let mut roots = self.named();
+        // By the queue, as before A6; the fast machine goes by the sixth words.
+        let mut roots: BTreeSet<u16> = self.places().into_iter().collect();
         for (&x, cell) in &self.cells {
             if cell.root > 0 {
                 roots.insert(x);
@@ -208,7 +225,7 @@ fn question_1(store: &Store) -> bool {
         && table[2] <= c
         && store.queue.place < 64
         && store.queue.count <= 64
-        && table.len() >= 3 + 5 * c as usize
+        && table.len() >= 3 + 6 * c as usize
 }
 
 fn legal(word: u16, c: u16) -> bool {
@@ -240,7 +257,7 @@ pub fn first_questions(store: &Store, call: Call) -> Result<(), u8> {
             if !(1..=4096).contains(&c) {
                 return Err(3);
             }
-            if store.table.len() < 3 + 5 * c as usize {
+            if store.table.len() < 3 + 6 * c as usize {
                 return Err(1);
             }
             return Ok(());
@@ -373,8 +390,8 @@ fn fresh(store: &Store, c: u16) -> Store {
     after.table[2] = c;
     for x in 1..=c as usize {
         let next = if x == c as usize { 0 } else { x as u16 + 1 };
-        for (i, word) in [next, 0, 0, 0, 0].into_iter().enumerate() {
-            after.table[3 + 5 * (x - 1) + i] = word;
+        for (i, word) in [next, 0, 0, 0, 0, 0].into_iter().enumerate() {
+            after.table[3 + 6 * (x - 1) + i] = word;
         }
     }
     after.queue = Queue {
@@ -414,6 +431,7 @@ fn row_call(store: &Store, before: &Model, call: Call) -> (Store, u16) {
                 root: 1,
                 count: 0,
                 state: 1,
+                named: 0,
             };
             then.cells.insert(new, cell);
             ([2, x, y, new], new)
@@ -432,6 +450,8 @@ fn row_call(store: &Store, before: &Model, call: Call) -> (Store, u16) {
         Call::Down(x, n) => ([5, x, n, 0], 0),
         Call::Fresh(_) | Call::Step | Call::Audit => unreachable!(),
     };
+    then.packets.push(packet);
+    then.recount();
     put_cells(&mut after, &then);
     let mut slot = store.queue.place as usize;
     for _ in 0..store.queue.count {
@@ -453,6 +473,7 @@ fn step(store: &Store) -> (Store, Reply) {
     }
     // Apply the oldest packet.
     let packet = then.packets.remove(0);
+    then.recount();
     for (sort, word, amount) in changes(packet) {
         if let Some(cell) = then.cells.get_mut(&word) {
             let count = match sort {
@@ -488,7 +509,8 @@ fn step(store: &Store) -> (Store, Reply) {
     }
     for &x in &dead {
         let cell = then.cells.get_mut(&x).unwrap();
-        assert_eq!((cell.root, cell.count), (0, 0), "freed with counts");
+        let counts = (cell.root, cell.count, cell.named);
+        assert_eq!(counts, (0, 0, 0), "freed with counts");
         *cell = Cell::default();
         let last = after.table[2];
         if last == 0 {
@@ -576,7 +598,7 @@ fn s2(store: &Store, model: &Model) -> bool {
     let ends_at_last = chain.last().copied().unwrap_or(0) == store.table[2];
     let laid_out = free.iter().all(|x| {
         let cell = model.cells[x];
-        cell.right == 0 && cell.root == 0 && cell.count == 0
+        cell.right == 0 && cell.root == 0 && cell.count == 0 && cell.named == 0
     });
     met == free && ends_at_last && laid_out
 }
@@ -638,7 +660,9 @@ fn s3(store: &Store, model: &Model) -> bool {
             return false;
         }
     }
-    true
+    // A6: the sixth word is how often waiting packets name the cell.
+    let times = model.times_named();
+    model.cells.iter().all(|(x, cell)| cell.named == times[x])
 }
 
 fn s4(model: &Model) -> bool {
@@ -765,13 +789,18 @@ pub fn check_facts(store: &Store, holds: &Holds) -> Result<(), String> {
             return Err(format!("{x} is reached from a held cell and free"));
         }
     }
-    let held_or_named = held.union(&model.named()).copied().collect();
+    let held_or_named = held.into_iter().chain(model.places()).collect();
     let kept = model.reached_from(held_or_named);
     for (x, cell) in &model.cells {
         if cell.state == 1 && !kept.contains(x) {
             return Err(format!(
                 "{x} is in use, and neither held nor named reach it"
             ));
+        }
+    }
+    for (x, times) in model.times_named() {
+        if model.cells[&x].named != times {
+            return Err(format!("{x} isn't named as often as its sixth word says"));
         }
     }
     if let Some(rule) = audit(store) {

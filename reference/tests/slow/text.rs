@@ -239,7 +239,7 @@ pub fn opened(store: &Store, word: u16, depth: usize) -> Option<Tree> {
         32768.. => Tree::Atom(word - 32768),
         _ if depth == 0 => return None,
         _ => {
-            let base = 3 + 5 * (word as usize - 1);
+            let base = 3 + 6 * (word as usize - 1);
             let left = opened(store, store.table[base], depth - 1)?;
             let right = opened(store, store.table[base + 1], depth - 1)?;
             Tree::Pair(Box::new(left), Box::new(right))

@@ -1,7 +1,7 @@
 use native.Mathlib.Omega.{arith}
 use borrow.Author.Needs.{needs}
 use Rattle.machine.proofs.Questions.{says-yes, says-no, asked-lent}
-use Rattle.audit_pointers.proofs.PointerCounts.{scratch-of}
+use Rattle.scratch_counts.proofs.Counts.{scratch-of}
 use Rattle.audit.proofs.Verdict.{audited-refused, audited-judged}
 use Rattle.audit.proofs.audit_store.Statement.{statement}
 use Rattle.audit.proofs.audit_store.Tie as tie

@@ -1,8 +1,7 @@
-use mathlib.Core.Path.{sym, _∙_}
+use mathlib.Core.Path.{refl, sym, _∙_}
 use borrow.Author.Needs.{needs}
-use Rattle.machine.specs.Audit.{otherSlotsZero, packetsSound}
-use Rattle.audit_packets.specs.Packets.{replaysAll}
-use Rattle.audit_cells.proofs.Tests.{passed, failed, first-fails, second-fails, third-decides}
+use Rattle.audit_cells.proofs.Tests.{passed, failed}
+use Rattle.audit_packets.proofs.Parts.{slots-fail, legal-fails, replay-fails, names-decide}
 use Rattle.audit_packets.proofs.packets_sound.Statement.{statement}
 use Rattle.audit_packets.proofs.packets_sound.Tie as tie
 
@@ -10,28 +9,44 @@ other-slots-zero-requires : tie.Need-other-slots-zero-requires
 other-slots-zero-requires c κs = search needs
 
 returns : tie.Need-returns
-unfolding packetsSound replaysAll
-returns c = sym (first-fails _ _ (failed (c .before .other-slots-zero .ensures) (c .if1 .taken)))
+returns c =
+    let i = c .before .before .before .before .args in
+    record { answer = sym (slots-fail (i .table .now) (i .queue) (failed (c .before .other-slots-zero .ensures) (c .if1 .taken))); past = refl }
 
 packets-legal-requires : tie.Need-packets-legal-requires
 packets-legal-requires c κs = search needs
 
 returns-2 : tie.Need-returns-2
-unfolding packetsSound replaysAll
 returns-2 c =
-    let i = c .before .before .before .before .before .args in
-    sym (second-fails (otherSlotsZero (i .queue)) (replaysAll (i .table .now) (i .queue)) (failed (c .before .packets-legal .ensures) (c .if2 .taken)))
+    let i = c .before .before .before .before .before .before .args in
+    record { answer = sym (legal-fails (i .table .now) (i .queue) (failed (c .before .packets-legal .ensures) (c .if2 .taken))); past = refl }
 
 packets-replay-requires : tie.Need-packets-replay-requires
 packets-replay-requires c κs = search needs
 
 returns-3 : tie.Need-returns-3
-unfolding packetsSound replaysAll
 returns-3 c =
-    let at-if2 = c .before in
-    let at-if1 = at-if2 .before .before in
-    let zero = passed (at-if1 .before .other-slots-zero .ensures) (at-if1 .if1 .left) in
-    c .packets-replay .ensures ∙ third-decides _ zero (passed (at-if2 .before .packets-legal .ensures) (at-if2 .if2 .left))
+    let i = c .before .before .before .before .before .before .before .before .args in
+    record { answer = sym (replay-fails (i .table .now) (i .queue) (failed (c .before .packets-replay .ensures) (c .if3 .taken))); past = refl }
+
+names-counted-requires : tie.Need-names-counted-requires
+names-counted-requires c κs = search needs
+
+same-length : tie.Need-same-length
+same-length c = search needs
+
+returns-4 : tie.Need-returns-4
+returns-4 c =
+    let at-names = c .before .before in
+    let at-replay = at-names .before .before in
+    let at-legal = at-replay .before .before in
+    let at-slots = at-legal .before .before in
+    let i = at-slots .before .before .before .before .args in
+    let slots = passed (at-slots .before .other-slots-zero .ensures) (at-slots .if1 .left) in
+    let legal = passed (at-legal .before .packets-legal .ensures) (at-legal .if2 .left) in
+    let replay = passed (at-replay .before .packets-replay .ensures) (at-replay .if3 .left) in
+    let names = at-names .names-counted .ensures in
+    record { answer = names .answer ∙ names-decide (i .table .now) (i .queue) slots legal replay; past = names .past }
 
 pub packets-sound-spec : {M : Type 1} → statement M
 packets-sound-spec =
@@ -42,4 +57,7 @@ packets-sound-spec =
     packets-legal-requires
     returns-2
     packets-replay-requires
-    returns-3)
+    returns-3
+    names-counted-requires
+    same-length
+    returns-4)

@@ -1,7 +1,7 @@
 use mathlib.Core.Path.{sym, _∙_}
 use native.Mathlib.Omega.{arith}
 use borrow.Author.Needs.{needs}
-use Rattle.audit_pointers.proofs.PointerCounts.{scratch-of}
+use Rattle.scratch_counts.proofs.Counts.{scratch-of}
 use Rattle.audit_pointers.proofs.QueueUndo.{start-past, start-broken, undo-start}
 use Rattle.audit_cells.proofs.Tests.{passed, failed}
 use Rattle.audit_pointers.proofs.pointers_sound.Statement.{statement}

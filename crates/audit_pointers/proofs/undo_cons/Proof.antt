@@ -1,6 +1,6 @@
 use native.Mathlib.Omega.{arith}
 use borrow.Author.Needs.{needs}
-use Rattle.audit_pointers.proofs.PointerCounts.{scratch-of}
+use Rattle.scratch_counts.proofs.Counts.{scratch-of}
 use Rattle.audit_pointers.proofs.PacketUndo.{cons-no-left, cons-no-right, cons-yes}
 use Rattle.audit_pointers.proofs.undo_cons.Statement.{statement}
 use Rattle.audit_pointers.proofs.undo_cons.Tie as tie

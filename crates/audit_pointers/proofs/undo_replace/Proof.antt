@@ -1,7 +1,7 @@
 use native.Mathlib.Omega.{arith}
 use borrow.Author.Needs.{needs}
-use Rattle.audit_pointers.proofs.PointerCounts.{scratch-of}
-use Rattle.audit_pointers.proofs.PacketUndo.{undo-below, replace-no, replace-yes}
+use Rattle.scratch_counts.proofs.Counts.{scratch-of}
+use Rattle.audit_pointers.proofs.PacketUndo.{undo-room, replace-no, replace-yes}
 use Rattle.audit_pointers.proofs.undo_replace.Statement.{statement}
 use Rattle.audit_pointers.proofs.undo_replace.Tie as tie
 
@@ -36,7 +36,7 @@ raise-requires c κs =
     let i = start .args in
     let h = start .pre .0 in
     let e = at-capacity .capacity-of .ensures in
-    (scratch-of _ _ (i .table .now) e (h .able .lent .scratch), undo-below (i .table .now) (i .queue) (i .j) (i .scratch .now) h _ e)
+    (scratch-of _ _ (i .table .now) e (h .able .lent .scratch), undo-room (i .table .now) (i .queue) (i .j) (i .scratch .now) h _ e)
 
 lower-requires : tie.Need-lower-requires
 lower-requires c κs =

@@ -18,6 +18,9 @@ set-cell-count-requires c κs = search needs
 set-state-requires : tie.Need-set-state-requires
 set-state-requires c κs = search needs
 
+set-name-count-requires : tie.Need-set-name-count-requires
+set-name-count-requires c κs = search needs
+
 same-length : tie.Need-same-length
 same-length c = search needs
 
@@ -34,5 +37,6 @@ set-free-spec =
     set-root-count-requires
     set-cell-count-requires
     set-state-requires
+    set-name-count-requires
     same-length
     returns)

@@ -1,16 +1,10 @@
 use mathlib.Core.Path.{ap}
 use native.Mathlib.Omega.{arith}
 use borrow.Author.Needs.{needs}
-use Rattle.machine.specs.declared.Queue.{Queue}
 use Rattle.machine.specs.Table.{scratchWords}
-use Rattle.machine.specs.Queue.{queueOf, waiting}
 use Rattle.collector.proofs.StepContract.{collects}
 use Rattle.collector.proofs.collect.Statement.{statement}
 use Rattle.collector.proofs.collect.Tie as tie
-
--- the queue of the lent arrays
-abbrev queue : tie.Start → Queue
-queue c = let i = c .args in queueOf (i .kinds .now) (i .a .now) (i .b .now) (i .c .now) (i .place) (i .count)
 
 capacity-of-requires : tie.Need-capacity-of-requires
 capacity-of-requires c κs = search needs
@@ -26,7 +20,7 @@ clear-requires c κs =
     let at-mark = c .before .before .before .before .before .before .before .before in
     let at-capacity-of = at-mark .before .before .before in
     let s = at-capacity-of .before .before .before .before in
-    omega (arith, ap scratchWords (at-capacity-of .capacity-of .ensures), s .pre .scratch, at-mark .mark .kept)
+    omega (arith, ap scratchWords (at-capacity-of .capacity-of .ensures), s .pre .1, at-mark .mark .kept)
 
 same-length : tie.Need-same-length
 same-length c = search needs
@@ -40,7 +34,7 @@ returns c =
     let at-mark = at-sweep .before .before .before .before .before in
     let at-capacity-of = at-mark .before .before .before in
     let s = at-capacity-of .before .before .before .before in
-    collects (s .args .table .now) (waiting (queue s)) (s .args .scratch .now) _ _ _ _ _ (at-capacity-of .capacity-of .ensures) (at-mark .mark .ensures)
+    collects (s .args .table .now) (s .args .scratch .now) _ _ _ _ _ (at-capacity-of .capacity-of .ensures) (at-mark .mark .ensures)
     (at-sweep .sweep .ensures) (c .before .before .clear .ensures)
 
 pub collect-spec : {M : Type 1} → statement M

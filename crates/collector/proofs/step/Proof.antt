@@ -6,7 +6,7 @@ use Rattle.machine.specs.Calls.{step, store}
 use Rattle.machine.specs.Questions.{firstNo, early}
 use Rattle.machine.specs.Facts.{Lent}
 use Rattle.machine.proofs.Questions.{says-yes, says-no, asked-lent}
-use Rattle.collector.proofs.StepContract.{refuses, idles, applies, taken-lent}
+use Rattle.collector.proofs.StepContract.{refuses, idles, applies}
 use Rattle.collector.proofs.step.Statement.{statement}
 use Rattle.collector.proofs.step.Tie as tie
 
@@ -89,11 +89,9 @@ sub-rest : tie.Need-sub-rest
 sub-rest c = search needs
 
 apply-oldest-requires : tie.Need-apply-oldest-requires
-unfolding taken putSlot
 apply-oldest-requires c κs =
-    let at-told = c .before .before .before .before .before .before .before .before .before .before .before .before in
-    let i = start at-told .args in
-    taken-lent (i .table .now) (i .queue) (i .scratch .now) (past at-told)
+    let h = past (c .before .before .before .before .before .before .before) in
+    (h .shape .table, h .scratch)
 
 same-length : tie.Need-same-length
 same-length c = search needs
@@ -120,7 +118,7 @@ returns-2 : tie.Need-returns-2
 unfolding slot taken putSlot
 returns-2 c =
     let at-apply-oldest = c .before .before .before .before in
-    let at-then = at-apply-oldest .before .before .before .before .before .before .before .before .before .before .before .before in
+    let at-then = at-apply-oldest .before .before .before .before .before .before .before in
     let at-told = at-then .before in
     let i = start at-told .args in
     applies (i .table .now) (i .queue) (i .scratch .now) (yes at-told) (at-then .if1 .taken) _ _ _ _ (at-apply-oldest .apply-oldest .ensures) refl refl

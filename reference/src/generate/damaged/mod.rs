@@ -18,6 +18,7 @@ pub use reached::s5;
 use super::atoms::{self, FIRST_CLIPPED};
 use super::follower::Follower;
 use super::list::word;
+use super::recount::recounted;
 use crate::call::Call;
 use crate::queue::{Packet, Queue};
 use crate::store::Store;
@@ -109,7 +110,7 @@ fn crowded() -> Store {
 }
 
 /// A settled store of three held cells that contain nothing, with packets put
-/// into the queue as given.
+/// into the queue as given and named in the cells in use.
 fn with_packets(roots: [u16; 3], packets: &[Words]) -> Store {
     let mut follower = Follower::fresh(4);
     for _ in 0..3 {
@@ -124,7 +125,7 @@ fn with_packets(roots: [u16; 3], packets: &[Words]) -> Store {
     for &[kind, a, b, c] in packets {
         store.queue.push(Packet { kind, a, b, c });
     }
-    store
+    recounted(store)
 }
 
 fn edited(store: &Store, edits: &[Edit]) -> Store {

@@ -7,8 +7,10 @@ use crate::generate::atoms::{self, FIRST_CLIPPED, LAST_STORED};
 use crate::generate::edges;
 use crate::generate::follower::nil_read;
 use crate::generate::list::List;
+use crate::generate::recount::recount;
 use crate::generate::rng::Rng;
 use crate::generate::sound;
+use crate::question;
 use crate::queue::Queue;
 use crate::store::Store;
 
@@ -43,7 +45,8 @@ fn clipped_call(rng: &mut Rng, cells: u16) -> Call {
     ])
 }
 
-/// A sound store with one or two words changed.
+/// A sound store with one or two words changed. In two of three the sixth words
+/// follow the queue, so that other rules than S3 are met.
 pub fn mutant(rng: &mut Rng, cells: u16) -> Store {
     let calls = rng.below(120);
     let mut store = sound::clipped_store(rng, cells, calls).store;
@@ -58,6 +61,9 @@ pub fn mutant(rng: &mut Rng, cells: u16) -> Store {
             _ => rng.within(0, cells),
         };
         mutate(rng, &mut store, value);
+    }
+    if !rng.one_in(3) && question::store(&store.table, &store.queue).is_ok() {
+        recount(&mut store);
     }
     store
 }

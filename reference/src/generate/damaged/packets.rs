@@ -6,6 +6,7 @@ use super::{sample, settled, with_packets, Words};
 use crate::call::Call;
 use crate::generate::follower::Follower;
 use crate::generate::list::{word, List};
+use crate::generate::recount::recounted;
 use crate::queue::{self, Packet, Queue};
 use crate::table::*;
 
@@ -40,7 +41,9 @@ fn stray_slots(list: &mut List) -> io::Result<()> {
         let mut store = sample.clone();
         store.queue.place = (i32::from(store.queue.place) + place) as u16;
         store.queue.count = (i32::from(store.queue.count) + count) as u16;
+        // As before A6, and with only the slots wrong.
         list.case(title, &store)?;
+        list.case(title, &recounted(store))?;
     }
     let mut empty = settled();
     for (slot, place) in [(63, 0), (0, 63), (0, 0), (63, 63)] {
@@ -62,7 +65,7 @@ fn stray_slots(list: &mut List) -> io::Result<()> {
     full.store.queue.place = 5;
     list.case("S3: full queue from another place", &full.store)?;
     full.store.queue.count = 63;
-    list.case("S3: full queue with count 63", &full.store)
+    list.case("S3: full queue with count 63", &recounted(full.store))
 }
 
 /// Single packets on cells 1 to 3 in use, each held twice, and cell 4 free.

@@ -5,6 +5,7 @@ use std::io;
 use super::{edited, sample, with_packets, Edit, Words};
 use crate::call::Call;
 use crate::generate::list::{word, List};
+use crate::generate::recount::recounted;
 use crate::queue::{Packet, Queue};
 use crate::row;
 use crate::store::Store;
@@ -57,6 +58,7 @@ pub fn s4(list: &mut List) -> io::Result<()> {
         ] {
             let mut store = sample.clone();
             store.queue.set_slot(slot, other);
+            let store = recounted(store);
             list.case(&format!("S4: packet {i} is {other:?}"), &store)?;
         }
     }
@@ -77,6 +79,7 @@ fn undo_order(list: &mut List) -> io::Result<()> {
     for (i, b) in [(0, 32_770), (1, 0), (2, 2)] {
         let mut store = good.clone();
         store.queue.b[i] = b;
+        let store = recounted(store);
         list.case(&format!("S4: replace {i} detached another word"), &store)?;
     }
     for i in 0..3 {
@@ -85,6 +88,7 @@ fn undo_order(list: &mut List) -> io::Result<()> {
         list.case(&format!("S4: replace {i} was of the other field"), &store)?;
         let mut store = good.clone();
         store.queue.a[i] = 0;
+        let store = recounted(store);
         list.case(&format!("S4: replace {i} put in another word"), &store)?;
     }
     let swapped = [replaces[1], replaces[0], replaces[2]];
@@ -101,16 +105,17 @@ fn undo_order(list: &mut List) -> io::Result<()> {
     store.queue.b[1] = 0;
     list.case(
         "S4: undo fails only at the first packet, by its right",
-        &store,
+        &recounted(store),
     )?;
     let mut store = good.clone();
     store.queue.a[0] = 0;
     list.case(
         "S4: undo fails only at the first packet, by its left",
-        &store,
+        &recounted(store),
     )?;
     let mut store = good.clone();
     store.queue.c[0] = 2;
+    let store = recounted(store);
     list.case("S4: the first packet made another cell", &store)?;
     let store = edited(&good, &[(word(2, CELL_COUNT), 1)]);
     list.case("S4: the count after a packet that is still waiting", &store)?;
@@ -121,6 +126,7 @@ fn undo_order(list: &mut List) -> io::Result<()> {
     list.case("S4: one cell made twice, first of nil", &store)?;
     let mut store = store;
     store.queue.a[0] = 1;
+    let store = recounted(store);
     list.case("S4: one cell made twice, first of a cell", &store)?;
     // 64 replaces of one field, the oldest of them wrong.
     let mut packets: Vec<Words> = (0..64)
@@ -134,9 +140,11 @@ fn undo_order(list: &mut List) -> io::Result<()> {
     list.case("S4: 64 replaces of one field", &good)?;
     let mut store = good.clone();
     store.queue.b[1] = 0;
+    let store = recounted(store);
     list.case("S4: 64 replaces, the one undone last fails", &store)?;
     let mut store = good;
     store.queue.b[0] = 1;
+    let store = recounted(store);
     list.case("S4: 64 replaces, the count fails at the end", &store)
 }
 
@@ -178,7 +186,7 @@ fn many_pointers(list: &mut List) -> io::Result<()> {
         row::fresh(&mut store.table, &mut queue, 2_100).expect("the table is long enough");
         for x in 1..=2_049 {
             let fields = if x == 1 { [0, 0] } else { [1, 1] };
-            let cell = [fields[0], fields[1], 1, 0, IN_USE];
+            let cell = [fields[0], fields[1], 1, 0, IN_USE, 0];
             store.table[at(x)..at(x) + CELL_WORDS].copy_from_slice(&cell);
         }
         store.table[FIRST_FREE] = 2_050;
@@ -187,27 +195,16 @@ fn many_pointers(list: &mut List) -> io::Result<()> {
         for &[kind, a, b, c] in packets {
             store.queue.push(Packet { kind, a, b, c });
         }
-        edited(&store, edits)
+        recounted(edited(&store, edits))
     };
     let one_less = [(word(2, LEFT), 0)];
     let two_less = [(word(2, LEFT), 0), (word(2, RIGHT), 0)];
     let cases: &[(&str, Store)] = &[
         ("4095 pointers", build(4_095, &one_less, &[])),
-        ("4095 pointers, counted 4094", build(4_094, &one_less, &[])),
-        ("4096 pointers, counted 4095", build(4_095, &[], &[])),
         // The newest packet put in the 4,096th.
         (
             "4096 pointers, 4095 once undone",
             build(4_095, &[], &[[3, 1, 0, 2]]),
-        ),
-        (
-            "4095 pointers, 4094 once undone",
-            build(4_094, &one_less, &[[6, 1, 0, 2]]),
-        ),
-        // The packet took out the 4,096th.
-        (
-            "4095 pointers, 4096 once undone",
-            build(4_095, &one_less, &[[3, 0, 1, 2]]),
         ),
         (
             "4094 pointers, 4095 once undone",
@@ -224,10 +221,6 @@ fn many_pointers(list: &mut List) -> io::Result<()> {
         (
             "4095 pointers, one put in where it stood",
             build(4_095, &one_less, &[[6, 1, 1, 2]]),
-        ),
-        (
-            "4095 pointers, two from a waiting cons",
-            build(4_093, &one_less, &[[2, 1, 1, 9]]),
         ),
     ];
     for (title, store) in cases {

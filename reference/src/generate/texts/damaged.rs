@@ -133,7 +133,7 @@ fn wrong_words(list: &mut List) -> io::Result<()> {
 fn question_1(list: &mut List) -> io::Result<()> {
     let sample = sample();
     let mut stores = Vec::new();
-    for length in [0, 1, 2, 3, 42, 43, 44] {
+    for length in [0, 1, 2, 3, 43, 50, 51, 52] {
         let mut store = sample.clone();
         store.table.resize(length, 12_345);
         stores.push((format!("table of {length} words"), store));

@@ -1,6 +1,5 @@
 use mathlib.Core.Path.{_∙_}
 use borrow.Author.Needs.{needs}
-use Rattle.machine.specs.Queue.{waiting}
 use Rattle.audit.proofs.Reached.{marked-reached}
 use Rattle.audit.proofs.live.all_reached.Statement.{statement}
 use Rattle.audit.proofs.live.all_reached.Tie as tie
@@ -16,11 +15,10 @@ same-length c = search needs
 
 returns : tie.Need-returns
 returns c =
-    let i = c .before .before .before .before .before .before .before .before .before .before .before .before .before .args in
-    let m = c .before .before .before .before .mark .ensures in
-    record { answer = c .used-marked .ensures ∙ marked-reached (i .table .now) (waiting (i .t2)) _ (m .marks); past = m .past }
+    let at-mark = c .before .before .before .before in
+    let i = at-mark .before .before .before .before .args in
+    let m = at-mark .mark .ensures in
+    record { answer = c .used-marked .ensures ∙ marked-reached (i .table .now) _ (m .marks); past = m .past }
 
 pub all-reached-spec : {M : Type 1} → statement M
-all-reached-spec =
-    tie.close
-    (tie.spec mark-requires used-marked-requires same-length returns)
+all-reached-spec = tie.close (tie.spec mark-requires used-marked-requires same-length returns)

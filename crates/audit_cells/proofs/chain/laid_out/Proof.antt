@@ -3,7 +3,7 @@ use Prim.Native.Nat.{ℕ}
 use native.Mathlib.Omega.{arith}
 use lib.Dec.{eqb}
 use borrow.Author.Needs.{needs}
-use Rattle.machine.specs.Table.{right, rootCount, cellCount}
+use Rattle.machine.specs.Table.{right, rootCount, cellCount, state}
 use Rattle.machine.proofs.Chain.{laid-wiped}
 use Rattle.audit_cells.proofs.Tests.{refuted}
 use Rattle.audit_cells.proofs.FreeChain.{laid-last}
@@ -32,13 +32,22 @@ state-word-requires : tie.Need-state-word-requires
 state-word-requires c κs = search needs
 
 returns-4 : tie.Need-returns-4
-returns-4 c =
-    let at-cell-count = c .before .before .before in
+returns-4 c = sym (refuted _ (λ h. c .if4 .taken (c .before .state-word .ensures ∙ laid-wiped _ _ h state (omega arith) (omega arith))))
+
+name-count-requires : tie.Need-name-count-requires
+name-count-requires c κs = search needs
+
+returns-5 : tie.Need-returns-5
+returns-5 c =
+    let at-name-count = c .before in
+    let at-state-word = at-name-count .before .before in
+    let at-cell-count = at-state-word .before .before .before in
     let at-root-count = at-cell-count .before .before .before in
     let at-field = at-root-count .before .before in
-    ap (λ (n : ℕ). eqb n 0) (c .state-word .ensures)
+    ap (λ (n : ℕ). eqb n 0) (at-name-count .name-count .ensures)
     ∙ laid-last _ _ (sym (at-field .field .ensures) ∙ at-root-count .before .if1 .left)
-    (sym (at-root-count .root-count .ensures) ∙ at-cell-count .before .if2 .left) (sym (at-cell-count .cell-count .ensures) ∙ c .before .if3 .left)
+    (sym (at-root-count .root-count .ensures) ∙ at-cell-count .before .if2 .left) (sym (at-cell-count .cell-count .ensures) ∙ at-state-word .before .if3 .left)
+    (sym (at-state-word .state-word .ensures) ∙ at-name-count .before .if4 .left)
 
 pub laid-out-spec : {M : Type 1} → statement M
 laid-out-spec =
@@ -51,4 +60,6 @@ laid-out-spec =
     cell-count-requires
     returns-3
     state-word-requires
-    returns-4)
+    returns-4
+    name-count-requires
+    returns-5)

@@ -2,7 +2,7 @@ use mathlib.Core.Path.{sym, _∙_}
 use native.Mathlib.Omega.{arith}
 use borrow.Author.Needs.{needs}
 use Rattle.marks.proofs.Loops.{push-new, push-met, push-none}
-use Rattle.marks.proofs.Cells.{bounds}
+use Rattle.counts.proofs.Cells.{bounds}
 use Rattle.marks.proofs.Scratch.{word-within}
 use Rattle.marks.proofs.pending.push.Statement.{statement}
 use Rattle.marks.proofs.pending.push.Tie as tie

@@ -1,7 +1,7 @@
 use mathlib.Core.Logic.{inl, inr, ⊎-elim}
 use Rattle.machine.specs.Packets.{kindOf}
 use Rattle.machine.specs.ShortWay.{watchedOf}
-use Rattle.marks.proofs.Names.{watched-none}
+use Rattle.marks.proofs.RootTests.{watched-none}
 use Rattle.marks.proofs.roots.watched_of.Statement.{statement}
 use Rattle.marks.proofs.roots.watched_of.Tie as tie
 

@@ -14,15 +14,22 @@ drain-requires-2 : tie.Need-drain-requires-2
 drain-requires-2 c κs = search needs
 
 same-length : tie.Need-same-length
-same-length c = c .before .before .before .before .drain2 .kept .0 ∙ c .before .before .before .before .before .before .before .before .before .before .before .before .before .drain .kept .0
+same-length c =
+    let at-second = c .before .before .before .before in
+    let at-give-up = at-second .before .before .before .before .before in
+    let at-first = at-give-up .before .before .before .before .before .before in
+    at-second .drain2 .kept .0 ∙ at-give-up .give-up .kept .0 ∙ at-first .drain .kept .0
 
 same-length-2 : tie.Need-same-length-2
-same-length-2 c = c .before .before .before .before .drain2 .kept .1 .1 .0 ∙ c .before .before .before .before .before .before .before .before .before .before .before .before .before .drain .kept .1 .1 .0
+same-length-2 c =
+    let at-second = c .before .before .before .before in
+    let at-first = at-second .before .before .before .before .before .before .before .before .before .before .before in
+    at-second .drain2 .kept .1 .1 .0 ∙ at-first .drain .kept .1 .1 .0
 
 returns : tie.Need-returns
 returns c =
     let at-second = c .before .before .before .before in
-    let at-give-up = at-second .before .before .before in
+    let at-give-up = at-second .before .before .before .before .before in
     let at-first = at-give-up .before .before .before .before .before .before in
     all-cleaned (at-first .drain .ensures) (at-give-up .give-up .ensures) (at-second .drain2 .ensures)
 
