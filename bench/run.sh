@@ -54,6 +54,27 @@ long_queue() {
     repeated "up 1 1/down 1 1" 62
     repeated "up 1 1/step/down 1 1/step" "$lines"
 }
+# 20 cells, each read from a cell of its own and let go again, in turn, with 60 packets waiting: when a down is taken, only a packet 57 places behind it
+# names its cell, whose root count is 0.
+named_far_behind() {
+    awk -v n="$lines" 'BEGIN {
+        print "fresh 64"
+        for (k = 1; k <= 20; k++) { print "cons 0 0"; print "step"; print "cons " 2 * k - 1 " 0"; print "step" }
+        for (k = 1; k <= 20; k++) { print "up " 2 * k " 1"; print "car " 2 * k; print "down " 2 * k - 1 " 1" }
+        for (i = 0; i < n; i += 6) {
+            k = k % 20 + 1
+            print "up " 2 * k " 1"; print "step"; print "car " 2 * k; print "step"; print "down " 2 * k - 1 " 1"; print "step"
+        }
+    }'
+}
+# A cell made and given up with 62 packets waiting: each step that takes a down marks and sweeps.
+marking_far_behind() {
+    awk -v n="$lines" 'BEGIN {
+        print "fresh 64"
+        for (i = 0; i < 31; i++) { print "cons 0 0"; print "down " i + 1 " 1" }
+        for (; 4 * i < n; i++) { print "cons 0 0"; print "step"; print "down " i % 64 + 1 " 1"; print "step" }
+    }'
+}
 # 64 packets wait, of one cell or of 32, and every call is refused.
 full_queue_of_one() {
     echo "fresh 64"; echo "cons 0 0"
@@ -159,6 +180,10 @@ for kind in full rings mixed; do
 done
 long_queue >"$work/in"
 measure "63 packets of one cell waiting" 64
+named_far_behind >"$work/in"
+measure "steps that free nothing, the cell named 57 packets behind" 64
+marking_far_behind >"$work/in"
+measure "steps that mark, 62 packets waiting" 64
 full_queue_of_one >"$work/in"
 measure "64 packets of one cell waiting, all refused" 64
 full_queue_of_many >"$work/in"

@@ -69,6 +69,7 @@ def crates():
     # leaves
     d.box("cells", 385, 695, 220, 50, "code", ["cells", "header, fields, counts, state"])
     d.box("queue", 630, 695, 220, 50, "code", ["queue", "the ring; waiting changes"])
+    d.box("counts", 630, 610, 220, 50, "code", ["counts", "counters moved; cells named"])
     d.box("questions", 385, 610, 220, 50, "code", ["questions", "1 to 5 and 7: on every store"])
     # rule text
     d.box("writer", 210, 380, 155, 50, "code", ["writer", "1, 4, 6, then the text"])
@@ -79,10 +80,11 @@ def crates():
     d.box("calls", 385, 380, 140, 190, "code", ["calls", "fresh and the", "seven row calls"])
     d.box("marks", 545, 520, 140, 50, "code", ["marks", "roots, marks"])
     d.box("collector", 545, 380, 140, 75, "code", ["collector", "apply, mark,", "sweep"])
-    d.box("audit", 710, 380, 140, 36, "code", ["audit", "all rules; S5"])
-    d.box("audit_pointers", 710, 431, 140, 36, "code", ["audit_pointers", "S4"])
-    d.box("audit_packets", 710, 482, 140, 36, "code", ["audit_packets", "S3"])
-    d.box("audit_cells", 710, 533, 140, 36, "code", ["audit_cells", "S1, S2"])
+    d.box("audit", 710, 380, 140, 32, "code", ["audit", "all rules; S5"])
+    d.box("audit_pointers", 710, 421, 140, 32, "code", ["audit_pointers", "S4"])
+    d.box("audit_packets", 710, 462, 140, 32, "code", ["audit_packets", "S3"])
+    d.box("audit_cells", 710, 503, 140, 32, "code", ["audit_cells", "S1, S2"])
+    d.box("scratch_counts", 710, 544, 140, 32, "code", ["scratch_counts", "a count a cell"])
     d.box("soundness", 875, 380, 150, 365, "theorem", ["soundness", "every call keeps a", "sound store sound;", "nothing is trimmed;", "demand 3 over any", "list of calls;", "what is written", "is read back", "", "(no code)"])
     d.box("store", 210, 290, 815, 52, "face", ["store", "the public face: twelve calls, one promise each"])
     # texts and programs
@@ -137,18 +139,23 @@ def crates():
     d.line([(287, 702), (287, 778)])
     d.down("calls", "questions", 0.5, 0.3182)
     d.down("collector", "marks")
-    # marks: on questions and queue
+    # marks: on questions and counts
     d.down("marks", "questions", 0.2, 0.854)
-    d.down("marks", "queue", 0.9, 0.1864)
-    # calls: on the queue
-    d.line([(525, 490), (535, 490), (535, 588), (650, 588), (650, 693)])
+    d.down("marks", "counts", 0.9, 0.1864)
+    # calls: on counts, and these on the queue
+    d.line([(525, 490), (535, 490), (535, 588), (650, 588), (650, 608)])
+    d.down("counts", "queue")
+    d.line([(630, 635), (607, 635)])
     # the audit: rule upon rule; its crates stand on marks, questions and queue
     d.down("audit", "audit_pointers")
     d.down("audit_pointers", "audit_packets")
     d.down("audit_packets", "audit_cells")
     d.line([(710, 398), (697, 398), (697, 540), (687, 540)])
-    d.line([(780, 569), (780, 635), (607, 635)])
-    d.line([(850, 500), (862, 500), (862, 720), (852, 720)])
+    d.line([(710, 519), (703, 519), (703, 580), (590, 580), (590, 608)])
+    d.line([(850, 470), (866, 470), (866, 720), (852, 720)])
+    # S3 and S4 count in the scratch
+    d.line([(850, 484), (858, 484), (858, 560), (852, 560)])
+    d.line([(710, 556), (687, 556)])
     d.down("questions", "cells")
     d.down("cells", "machine", 0.5, 0.12195)
     d.down("queue", "machine", 0.5, 0.42073)
@@ -186,7 +193,7 @@ def call():
     d.box("early", 560, 160, 200, 62, "code", ["questions", "1, 4 and 7:", "shape, words, slots"])
     d.box("late", 790, 160, 200, 62, "code", ["queue, cells", "6, 8, 9, 10: counts with", "their waiting changes"])
     d.box("append", 560, 262, 200, 62, "code", ["calls", "one packet more:", "kind 2, (1, 0, 2)"])
-    d.box("write", 790, 262, 200, 62, "code", ["cells", "the first free cell", "gets both operands"])
+    d.box("write", 790, 262, 200, 62, "code", ["cells, counts", "the new cell gets both", "operands; 1 and 2 are named"])
     d.box("put", 20, 262, 190, 62, "text", ["line_text::put_line", "3 OK 2", "outputLine"])
     d.box("verdict", 240, 262, 190, 62, "text", ["session_lines", "row_verdict", "verdictOf"])
     for a, b in [("parse", "serve"), ("serve", "store"), ("store", "calls"), ("early", "late"), ("append", "write")]:
@@ -207,7 +214,7 @@ def call():
     d.box("step", 20, 440, 170, 62, "face", ["store::step", "the public call", "Promise"])
     d.box("lent", 215, 440, 170, 62, "code", ["questions::lent", "1 and 2"])
     d.box("take", 410, 440, 190, 62, "code", ["collector", "the oldest packet is taken;", "none waiting: idle"])
-    d.box("apply", 625, 440, 190, 62, "code", ["collector, cells", "its count changes", "one by one"])
+    d.box("apply", 625, 440, 190, 62, "code", ["counts", "its count changes one by", "one; its names given up"])
     d.box("stay", 840, 440, 200, 62, "code", ["marks::roots", "is the watched word", "still a root?"])
     d.box("mark", 625, 550, 190, 62, "code", ["marks::mark", "every reached cell,", "in the scratch"])
     d.box("sweep", 410, 550, 190, 62, "code", ["collector, cells", "sweep: free the rest,", "lower, join the free list"])

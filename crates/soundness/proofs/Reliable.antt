@@ -25,6 +25,7 @@ use Rattle.machine.proofs.Ring.{length-waiting}
 use Rattle.machine.proofs.Questions.{firstNo-zero, firstNo-other}
 use Rattle.machine.proofs.Kept.{machine-accepted, machine-cases, gives-machine}
 use Rattle.machine.proofs.NilReads.{only-nil, row-cases}
+use Rattle.machine.proofs.RootsByCell.{sound-counted, roots-by-cell}
 use Rattle.soundness.specs.Demand3.{Link, Joined, tableAfter, queueAfter, Holds, holds, moved, holdsAfter, Held}
 use Rattle.soundness.specs.Reliable.{Fields, fields, put, fieldsAfter, FieldsStand, RepliesField, Steps, ReadsBack, Told, EndsInNil, NewIsFree, HeldByHolds, Drains, FullOfHeld, ReadsText, NoneClipped, Relied, Reliable}
 use Rattle.soundness.proofs.Facts.{sound-facts}
@@ -227,6 +228,7 @@ module _ (t : List ℕ) (q : Queue) (h : ℕ → Holds) (a : Agrees t q h) where
     full-of-held = full-of-held;
     reads-text = reads-text;
     none-clipped = unclipped;
+    names-told = (sound-counted t q (a .whole .sound), roots-by-cell t q (a .whole .sound));
   }
 
 pub reliable : Reliable

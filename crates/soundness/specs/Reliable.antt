@@ -9,14 +9,16 @@ use lib.ListN.{length}
 use Rattle.notation.specs.Parse.{parse, meaning}
 use Rattle.machine.specs.declared.Queue.{Queue}
 use Rattle.machine.specs.Words.{isNil, mayBeStored}
-use Rattle.machine.specs.Table.{left, right, capacity, scratchWords, wordAt, inUse, isFree}
+use Rattle.machine.specs.Table.{left, right, nameCount, capacity, scratchWords, wordAt, inUse, isFree}
 use Rattle.machine.specs.Queue.{waiting}
+use Rattle.machine.specs.Packets.{timesNamed}
 use Rattle.machine.specs.Counts.{heldAtLeast}
 use Rattle.machine.specs.Reached.{ReachedFrom}
 use Rattle.machine.specs.Calls.{Call, fresh, row, step, audit, read, write, RowCall, car, cdr, cons, setLeft, setRight, up, down}
 use Rattle.machine.specs.Calls.{Reply, value, refused, idle, applied, sound, broken, text, Store, store, readsNil}
 use Rattle.machine.specs.Texts.{OpensOut}
 use Rattle.machine.specs.Promise.{Promise}
+use Rattle.machine.specs.RootsByCell.{RootsByCell}
 use Rattle.soundness.specs.Demand3.{Link, Joined, Begun, tableAfter, queueAfter, Holds, moved, Answered, answers, holdsAfter, Held}
 
 -- the words in the two fields of one cell
@@ -137,6 +139,10 @@ module _ (t : List ℕ) (q : Queue) (h : ℕ → Holds) where
   ReadsText = (s bytes : List ℕ) (w : ℕ) (after : Store) → Promise (store t q s) (read bytes) (value w) after
       → OpensOut (after .table) w (meaning (parse bytes)) × Stands t (after .table)
 
+  -- Each cell's name count is how many times waiting packets name it, so that root and protection are told from the cell alone (document 02, A6).
+  abbrev pub NamesTold : Type 0
+  NamesTold = ((i : ℕ) → i < capacity t → wordAt t i nameCount ≡ timesNamed (waiting q) (suc i)) × RootsByCell t q
+
   pub record Relied : Type 0 where
     pub ends-in-nil : EndsInNil
     pub new-is-free : NewIsFree
@@ -145,6 +151,7 @@ module _ (t : List ℕ) (q : Queue) (h : ℕ → Holds) where
     pub full-of-held : FullOfHeld
     pub reads-text : ReadsText
     pub none-clipped : NoneClipped t
+    pub names-told : NamesTold
 
 -- After any list of calls from an accepted fresh; what was put into the fields is told of lists in which no text is read.
 abbrev pub Reliable : Type 0
