@@ -61,8 +61,5 @@ reachedBy c start edge i = marked (marks c start edge c) i
 unfoldable pub reached : List ℕ → ℕ → Bool
 reached t i = reachedBy (capacity t) (isRoot t) (pointsTo t) i
 
-unfoldable pub reachedByQueue : List ℕ → List Packet → ℕ → Bool
-reachedByQueue t ps i = reachedBy (capacity t) (isRootByQueue t ps) (pointsTo t) i
-
 unfoldable pub reachedFrom : List ℕ → ℕ → ℕ → Bool
 reachedFrom t j i = reachedBy (capacity t) (eqb j) (pointsTo t) i

@@ -11,7 +11,7 @@ use Rattle.machine.specs.Packets.{isNamed}
 use Rattle.machine.specs.Reached.{isProtected, isRoot, isRootByQueue, Reached, ReachedByQueue}
 use Rattle.machine.specs.Audit.{Sound}
 
--- of each cell of a table t with the queue q, which need no more of the audit than it finds of a sound store
+-- of each cell of a table t with the queue q
 pub record RootsByCell (t : List ℕ) (q : Queue) : Type 0 where
   pub protected : (i : ℕ) → i < capacity t → isProtected t i ≡ isNamed (waiting q) (suc i)
   pub roots : (i : ℕ) → i < capacity t → isRoot t i ≡ isRootByQueue t (waiting q) i

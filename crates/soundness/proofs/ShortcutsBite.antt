@@ -28,6 +28,8 @@ shortcuts-bite = record {
   one-hold-for-both = λ h. let z = h 0 (lit< tt) in omega arith;
   children-left = λ h. let z = h 0 (lit< tt) in omega arith;
   unprotected = λ h. true≢false (h 0 0 (lit< tt) (begun (lit< tt) refl));
+  names-stay = λ h. let w = h 0 (lit< tt) refl in ⊎-elim (λ g. omega arith) false≢true (w .1);
+  names-stay-done = λ h. let w = h refl 0 (lit< tt) .0 refl in let g = w .1 in omega arith;
   frees-nothing = λ h. let w = h 0 (lit< tt) refl in ⊎-elim (λ g. omega arith) false≢true (w .1);
   frees-nothing-done = λ h. let w = h refl 0 (lit< tt) .0 refl in let g = w .1 in omega arith;
   frees-nothing-audit = λ h. not-sound (h (unmade .scratch) _ _ (lit≤ tt) (kept _ audit));

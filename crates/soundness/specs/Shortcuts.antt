@@ -1,5 +1,5 @@
--- "Shortcuts that lose cells": beside the right machine a variant for each, one with no protection by packets at all, and one that frees nothing,
--- with a short list of calls from fresh after which it breaks a named clause of demand 3. Proved by computation in proofs/ShortcutsBite.
+-- "Shortcuts that lose cells": beside the right machine a variant for each, one with no protection by packets at all, one that frees nothing, and one
+-- whose packets protect for good, with a short list of calls from fresh after which it breaks a named clause of demand 3. Proved by computation in proofs/ShortcutsBite.
 use mathlib.Core.Bool.{Bool, cond, not, _&&_, _||_}
 use mathlib.Core.List.{List, [], _∷_}
 use Prim.Native.Nat.{ℕ, suc, pred, _+_, _-_, min}
@@ -134,6 +134,10 @@ freesNothing = record { asks = questions; applies = applyPacket; dead = λ t. []
 abbrev pub freesNothing-calls : List Call
 freesNothing-calls = fresh 3 ∷ row (cons 0 0) ∷ row (down 1 1) ∷ step ∷ step ∷ []
 
+-- Who is named (document 02, A6): a packet that is taken and names its cells still.
+abbrev pub namesStay : Parts
+namesStay = applying (λ t p. applyChanges t (changes p))
+
 pub record ShortcutsBite : Type 0 where
   pub held-at-ceiling : Breaks heldAtCeiling heldAtCeiling-calls NoneLost
   pub held-at-ceiling-counts : Breaks heldAtCeiling heldAtCeiling-calls RootsAreHolds
@@ -142,6 +146,8 @@ pub record ShortcutsBite : Type 0 where
   pub one-hold-for-both : Breaks oneHoldForBoth oneHoldForBoth-calls NoneOwed
   pub children-left : Breaks childrenLeft childrenLeft-calls CellsArePointers
   pub unprotected : Breaks unprotected unprotected-calls NoneLost
+  pub names-stay : Breaks namesStay freesNothing-calls NoneLeft
+  pub names-stay-done : Breaks namesStay freesNothing-calls ExactWhenDone
   pub frees-nothing : Breaks freesNothing freesNothing-calls NoneLeft
   pub frees-nothing-done : Breaks freesNothing freesNothing-calls ExactWhenDone
   pub frees-nothing-audit : Breaks freesNothing freesNothing-calls AuditsSound
