@@ -9,7 +9,7 @@ use lib.Dec.{ltb, eqb}
 use lib.ListN.{length}
 use borrow.Author.Tests.{ltb-true, lt-ltb, le-ltb, eqb-true, eqb-false}
 use Rattle.machine.specs.Range.{matching, occurrences}
-use Rattle.machine.specs.Table.{stride, nameCount, capacity, firstFree, lastFree, tableLength, wordAt}
+use Rattle.machine.specs.Table.{stride, right, rootCount, state, nameCount, capacity, firstFree, lastFree, tableLength, wordAt, inUse}
 use Rattle.machine.specs.Queue.{Packet}
 use Rattle.machine.specs.Packets.{Kind, reads, makes, replaces, raises, lowers, unknown, kindOf, name, Direction, plus, minus, namesOf, names, nameChanges, contains, isNamed, timesNamed}
 use Rattle.machine.specs.Step.{shifted, moveCount, applyChanges, named}
@@ -60,6 +60,16 @@ module _ (d : Direction) (t : List ℕ) (p : Packet) where
   pub named-word : (i k : ℕ) → k < stride → k ≢ nameCount → wordAt (named d t p) i k ≡ wordAt t i k
   unfolding named
   named-word i k l e = naming-keeps (λ u. wordAt u i k ≡ wordAt t i k) d (λ u w h. word-move u name w d 1 i k l e ∙ h) t (names p) refl
+
+  pub named-field : (i k : ℕ) → k ≤ right → wordAt (named d t p) i k ≡ wordAt t i k
+  named-field i k l = named-word i k (omega arith) (omega arith)
+
+  pub named-root : (i : ℕ) → wordAt (named d t p) i rootCount ≡ wordAt t i rootCount
+  named-root i = named-word i rootCount (omega arith) (omega arith)
+
+  pub named-use : (i : ℕ) → inUse (named d t p) i ≡ inUse t i
+  unfolding inUse
+  named-use i = ap (ltb 0) (named-word i state (omega arith) (omega arith))
 
   pub named-count : tableLength (capacity t) ≤ length t → (i : ℕ) → i < capacity t
       → wordAt (named d t p) i nameCount ≡ shifted d (wordAt t i nameCount) (occurrences (suc i) (names p))

@@ -27,7 +27,7 @@ use Rattle.machine.proofs.Range.{tested, or-left, or-right, and-both, and-first
 use Rattle.machine.proofs.Select.{select-length, selected-some}
 use Rattle.machine.proofs.Words.{cell-index, cell-number, index-cell}
 use Rattle.machine.proofs.Table.{not-in-use-free}
-use Rattle.machine.proofs.Names.{named-capacity}
+use Rattle.machine.proofs.Names.{named-capacity, named-root}
 use Rattle.machine.proofs.Ring.{arrays-appended, waiting-appended}
 use Rattle.machine.proofs.Lists.{waiting-snoc}
 use Rattle.machine.proofs.Questions.{AllYes, firstNo-zero}
@@ -45,7 +45,7 @@ use Rattle.soundness.proofs.NewPacket.{HeldFor, Wrote, wrote-pointers}
 use Rattle.soundness.proofs.Cons.{withCell, same-capacity, new-left, new-right, other, was-free, new-used, same-use, keeps}
 use Rattle.soundness.proofs.RowWrites.{cons-case, cons-root, row-wrote, first-legal, second-legal}
 use Rattle.soundness.proofs.RowSound.{row-sound}
-use Rattle.soundness.proofs.NamedTable.{named-root, named-stands, named-pointers, named-free, named-opens}
+use Rattle.soundness.proofs.NamedTable.{named-stands, named-pointers, named-free, named-opens}
 use Rattle.soundness.proofs.CodeTests.{pointers-counted, pointers-most}
 use Rattle.soundness.proofs.RaisedCells.{question9, question10}
 

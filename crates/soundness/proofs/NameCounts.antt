@@ -5,17 +5,18 @@ use mathlib.Core.Bool.{Bool, true, false, cond}
 use mathlib.Core.List.{List, [], _∷_, _++_}
 use Prim.Native.Nat.{ℕ, suc, _≤_, _<_}
 use native.Mathlib.Omega.{arith}
-use lib.Dec.{ltb, eqb}
+use lib.Dec.{eqb}
 use lib.ListN.{length}
 use borrow.Author.Tests.{eqb-true, eqb-false, ltb-false}
 use Rattle.machine.specs.Range.{occurrences}
-use Rattle.machine.specs.Table.{stride, right, rootCount, state, nameCount, capacity, firstFree, lastFree, tableLength, wordAt, inUse}
+use Rattle.machine.specs.Table.{stride, right, rootCount, cellCount, state, nameCount, capacity, firstFree, lastFree, tableLength, wordAt, inUse}
 use Rattle.machine.specs.Queue.{Packet}
 use Rattle.machine.specs.Packets.{Direction, plus, minus, changes, names, contains, isNamed, timesNamed}
 use Rattle.machine.specs.Reached.{isRootByQueue, pointsTo}
 use Rattle.machine.specs.Step.{shifted, applyChanges, named, applyPacket}
 use Rattle.machine.proofs.Range.{tested}
-use Rattle.machine.proofs.Names.{named-length, named-capacity, named-first, named-last, named-word, named-count, occurs-contains, times-named, times-append}
+use Rattle.machine.proofs.Moves.{shifted-none}
+use Rattle.machine.proofs.Names.{named-length, named-capacity, named-first, named-last, named-word, named-field, named-root, named-use, named-count, occurs-contains, times-named, times-append}
 use Rattle.machine.proofs.RootsByCell.{Counted}
 use Rattle.soundness.proofs.PacketKinds.{unnamed-first, unnamed-last}
 use Rattle.soundness.proofs.Views.{shown, Same, all-map, earlier, earlier-same, seen, seen-same, stages-same}
@@ -41,37 +42,20 @@ module _ (d : Direction) (t : List ℕ) (p : Packet) (ps : List Packet) (f : Fac
   abbrev same-capacity : capacity u ≡ capacity t
   same-capacity = named-capacity d t p
 
-  pub naming-use : (i : ℕ) → inUse u i ≡ inUse t i
-  unfolding inUse
-  naming-use i = ap (ltb 0) (named-word d t p i state (omega arith) (omega arith))
-
-  pub naming-fields : (i k : ℕ) → k ≤ right → wordAt u i k ≡ wordAt t i k
-  naming-fields i k l = named-word d t p i k (omega arith) (omega arith)
-
-  shifted-none : (n m : ℕ) → m ≡ 0 → shifted d n m ≡ n
-  shifted-none n m e = rw e (go d)
-    where
-      go : (d : Direction) → shifted d n 0 ≡ n
-      go plus = omega arith
-      go minus = omega arith
-
   free-words : (i k : ℕ) → i < capacity t → k < stride → inUse t i ≡ false → wordAt u i k ≡ wordAt t i k
   free-words i k l m e = ⊎-elim count (λ n. named-word d t p i k m (eqb-false k nameCount n)) (tested (eqb k nameCount))
     where
       count : eqb k nameCount ≡ true → wordAt u i k ≡ wordAt t i k
       count n =
           rw (eqb-true k nameCount n) (named-count d t p (f .room) i l
-          ∙ shifted-none (wordAt t i nameCount) (occurrences (suc i) (names p)) (none-contained (suc i) (names p) (spared i l e)))
+          ∙ ap (shifted d (wordAt t i nameCount)) (none-contained (suc i) (names p) (spared i l e)) ∙ shifted-none d (wordAt t i nameCount))
 
   keeps : (i : ℕ) → i < capacity t → inUse t i ≡ true → inUse u i ≡ true
-  keeps i _ e = naming-use i ∙ e
+  keeps i _ e = named-use d t p i ∙ e
 
   same-shown : Same (capacity t) (shown t) (shown u)
   unfolding shown
-  same-shown i k l m = sym (ap₂ (λ (b : Bool) (w : ℕ). cond b w 0) (naming-use i) (naming-fields i k m))
-
-  same-root : (i : ℕ) → wordAt u i rootCount ≡ wordAt t i rootCount
-  same-root i = named-word d t p i rootCount (omega arith) (omega arith)
+  same-shown i k l m = sym (ap₂ (λ (b : Bool) (w : ℕ). cond b w 0) (named-use d t p i) (named-field d t p i k m))
 
   pub naming-facts : Facts u ps
   naming-facts = record {
@@ -79,24 +63,24 @@ module _ (d : Direction) (t : List ℕ) (p : Packet) (ps : List Packet) (f : Fac
     most = rw same-capacity (f .most);
     room = rw (same-capacity, named-length d t p) (f .room);
     states = λ i l. rw (named-word d t p i state (omega arith) (omega arith)) (f .states i (rw same-capacity at l));
-    roots = λ i l. rw (same-root i) (f .roots i (rw same-capacity at l));
-    cells = λ i l. rw (named-word d t p i 3 (omega arith) (omega arith)) (f .cells i (rw same-capacity at l));
-    fields = λ i k l m e. rw (naming-fields i k m) (fit-grows t u (wordAt t i k) same-capacity keeps
-        (f .fields i k (rw same-capacity at l) m (sym (naming-use i) ∙ e)));
+    roots = λ i l. rw (named-root d t p i) (f .roots i (rw same-capacity at l));
+    cells = λ i l. rw (named-word d t p i cellCount (omega arith) (omega arith)) (f .cells i (rw same-capacity at l));
+    fields = λ i k l m e. rw (named-field d t p i k m) (fit-grows t u (wordAt t i k) same-capacity keeps
+        (f .fields i k (rw same-capacity at l) m (sym (named-use d t p i) ∙ e)));
     free = f .free;
-    chain = chain-same t u (f .free) same-capacity (named-first d t p) (named-last d t p) (λ i _. naming-use i) free-words (f .chain);
+    chain = chain-same t u (f .free) same-capacity (named-first d t p) (named-last d t p) (λ i _. named-use d t p i) free-words (f .chain);
     legal = all-map (LegalPacket t) (LegalPacket u) ps (λ r. legal-grows t u r same-capacity keeps) (f .legal);
-    replay = λ i l. rw (same-root i) (f .replay i (rw same-capacity at l));
+    replay = λ i l. rw (named-root d t p i) (f .replay i (rw same-capacity at l));
     stages = rw same-capacity (stages-same (capacity t) (shown t) (shown u) ps same-shown (all-below t ps f) (f .stages));
-    counts = rw same-capacity (λ (i : ℕ) (l : i < capacity t). named-word d t p i 3 (omega arith) (omega arith) ∙ f .counts i l
+    counts = rw same-capacity (λ (i : ℕ) (l : i < capacity t). named-word d t p i cellCount (omega arith) (omega arith) ∙ f .counts i l
         ∙ seen-same (capacity t) (earlier (shown t) ps) (earlier (shown u) ps) (suc i) (earlier-same (capacity t) (shown t) (shown u) ps same-shown));
   }
 
   pub naming-live : Live t ps → Live u ps
   naming-live live i l e =
-      reached-grows t u ps ps same-capacity (λ j _ r. unfold isRootByQueue in rw (same-root j) r)
-      (λ j k _ _ h. let w = points-cases t j k h in inl (points-by u j k (w .0) (w .1) (naming-fields j (w .0) (w .1) ∙ w .2)))
-      (live i (rw same-capacity at l) (sym (naming-use i) ∙ e))
+      reached-grows t u ps ps same-capacity (λ j _ r. unfold isRootByQueue in rw (named-root d t p j) r)
+      (λ j k _ _ h. let w = points-cases t j k h in inl (points-by u j k (w .0) (w .1) (named-field d t p j (w .0) (w .1) ∙ w .2)))
+      (live i (rw same-capacity at l) (sym (named-use d t p i) ∙ e))
 
 -- a packet joins the queue: its table t, in which the counts are still those of the packets before it
 module _ (t : List ℕ) (ps : List Packet) (p : Packet) (f : Facts t (ps ++ (p ∷ []))) (n : Counted t ps) where
@@ -128,7 +112,7 @@ module _ (t : List ℕ) (p : Packet) (ps : List Packet) (f : Facts t (p ∷ ps))
 
   pub packet-use : (i : ℕ) → inUse (applyPacket t p) i ≡ inUse t i
   unfolding applyPacket
-  packet-use i = naming-use minus changed p ps (applied-facts t p ps f) oldest-spared i ∙ applied-use t p ps f i
+  packet-use i = named-use minus changed p i ∙ applied-use t p ps f i
 
   pub packet-facts : Facts (applyPacket t p) ps
   unfolding applyPacket

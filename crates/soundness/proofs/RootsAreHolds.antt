@@ -20,7 +20,7 @@ use Rattle.machine.specs.Machine.{consed, accepted}
 use Rattle.machine.proofs.Table.{word-other}
 use Rattle.machine.proofs.Ring.{arrays-appended, arrays-taken, waiting-appended}
 use Rattle.machine.proofs.Range.{matching-other}
-use Rattle.machine.proofs.Names.{named-capacity}
+use Rattle.machine.proofs.Names.{named-capacity, named-root}
 use Rattle.machine.proofs.RootsByCell.{Counted, sound-counted}
 use Rattle.machine.proofs.NilReads.{nil-cases, word-read}
 use Rattle.machine.proofs.Replay.{replays-uses}
@@ -37,7 +37,6 @@ use Rattle.soundness.proofs.RowWrites.{cons-root, row-wrote}
 use Rattle.soundness.proofs.RowSound.{row-sound}
 use Rattle.soundness.proofs.OldestPacket.{applied-root}
 use Rattle.soundness.proofs.NameCounts.{packet-capacity, packet-word, packet-facts, packet-counted}
-use Rattle.soundness.proofs.NamedTable.{named-root}
 use Rattle.soundness.proofs.FreedCells.{swept-capacity, swept-root}
 use Rattle.soundness.proofs.StepSound.{stepTable, waiting-rest, step-sound}
 use Rattle.soundness.proofs.CallSound.{fresh-yes, fresh-whole, text-built}
