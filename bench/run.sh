@@ -30,18 +30,24 @@ quiet() { # C
     chain "$1"
     repeated "up $(($1 - 1)) 1/step/down $(($1 - 1)) 1/step" "$lines"
 }
-# A cell made and given up: the step that takes the down marks the whole chain and frees one cell.
+# A cell made and given up beside the chain: the step that takes the down looks at that cell alone and frees it.
+single() { # C
+    chain "$1"
+    repeated "cons 0 0/step/down $1 1/step" "$lines"
+}
+# A chain of C - 2 cells whose head is read from the one cell that points to it and let go again: the step that takes the down has the whole chain in doubt,
+# marks everything and frees nothing.
 marking() { # C LINES
     chain "$1"
-    repeated "cons 0 0/step/down $1 1/step" "$2"
+    repeated "up $(($1 - 1)) 1/step/car $(($1 - 1))/step/down $(($1 - 2)) 1/step" "$2"
 }
-# Rings of C / 2 cells, each made, closed and given up: the last step of a round frees it. Freed cells come back at the free list's end, so that rounds
-# use the lower and the upper half of the cells in turn.
-rings() { # C
-    awk -v c="$1" -v n="$lines" 'BEGIN {
-        print "fresh " c; half = c / 2
-        for (i = 0; i < n; i += 2 * (half + 3)) {
-            first = low ? half + 1 : 1; low = !low; last = first + half - 1
+# Rings of M cells, each made, closed and given up: the last step of a round frees it. Freed cells come back at the free list's end, so that rounds use the
+# cells in turn; M divides C.
+rings() { # C M
+    awk -v c="$1" -v m="$2" -v n="$lines" 'BEGIN {
+        print "fresh " c
+        for (i = 0; i < n; i += 2 * (m + 3)) {
+            first = at % c + 1; last = first + m - 1; at += m
             print "cons 0 0"; print "step"; print "up " first " 1"; print "step"
             for (k = first; k < last; k++) { print "cons " k " 0"; print "step" }
             print "setl " first " " last; print "step"; print "down " first " 1"; print "step"
@@ -67,8 +73,8 @@ named_far_behind() {
         }
     }'
 }
-# A cell made and given up with 62 packets waiting: each step that takes a down marks and sweeps.
-marking_far_behind() {
+# A cell made and given up with 62 packets waiting.
+single_far_behind() {
     awk -v n="$lines" 'BEGIN {
         print "fresh 64"
         for (i = 0; i < 31; i++) { print "cons 0 0"; print "down " i + 1 " 1" }
@@ -111,7 +117,7 @@ turn() { # RUNS PROGRAM
         left=$((left - 1))
     done
 }
-# First the outputs are compared; then the programs take turns, five times. The best turn of each counts.
+# First the outputs are compared; then the programs take turns, five times, or once where a turn takes over three seconds. The best turn of each counts.
 compare() { # NAME C COUNT RUNS OURS REFERENCE PROGRAM...
     row="| $1 | $2 | $3 |"
     count=$(($3 * $4))
@@ -128,13 +134,16 @@ compare() { # NAME C COUNT RUNS OURS REFERENCE PROGRAM...
         column=0
         for program in "$ours" "$@"; do
             column=$((column + 1))
+            grep -q "^$column slow" "$work/spent" && continue
             from=$(date +%s%N)
             turn "$runs" "$program"
-            echo "$column $((($(date +%s%N) - from) / 1000))" >>"$work/spent"
+            spent=$((($(date +%s%N) - from) / 1000))
+            echo "$column $spent" >>"$work/spent"
+            [ "$spent" -lt 3000000 ] || echo "$column slow" >>"$work/spent"
         done
     done
     awk -v row="$row" -v n="$count" '
-        !($1 in best) || $2 < best[$1] { best[$1] = $2 }
+        $2 != "slow" && (!($1 in best) || $2 < best[$1]) { best[$1] = $2 }
         $1 > most { most = $1 }
         END {
             printf "%s %.2f | %.2f | %.2f |", row, n / best[1], n / best[2], best[2] / best[1]
@@ -165,25 +174,34 @@ done
 echo "$heading"
 echo "$rule"
 for c in 64 512 4096; do
-    "$reference" generate 7 session lively "$c" $((c < 4096 ? lines : lines / 5)) >"$work/in"
+    "$reference" generate 7 session lively "$c" "$lines" >"$work/in"
     measure "mix of calls" "$c"
+    for kind in full rings; do
+        "$reference" generate 7 session "$kind" "$c" "$lines" >"$work/in"
+        measure "sessions: $kind" "$c"
+    done
     quiet "$c" >"$work/in"
     measure "steps that free nothing" "$c"
+    single "$c" >"$work/in"
+    measure "a cell made and given up" "$c"
     marking "$c" $((lines / (c < 4096 ? 1 : 20))) >"$work/in"
     measure "steps that mark everything" "$c"
-    rings "$c" >"$work/in"
-    measure "rings made and given up" "$c"
+    rings "$c" $((c / 2)) >"$work/in"
+    measure "rings of C / 2 made and given up" "$c"
 done
-for kind in full rings mixed; do
-    "$reference" generate 7 session "$kind" 64 "$lines" >"$work/in"
-    measure "sessions: $kind" 64
+"$reference" generate 7 session mixed 64 "$lines" >"$work/in"
+measure "sessions: mixed" 64
+for ring in "64 64" "4096 64" "4095 65" "4096 4096"; do
+    # shellcheck disable=SC2086 # C and M
+    rings $ring >"$work/in"
+    measure "rings of ${ring#* } made and given up" "${ring% *}"
 done
 long_queue >"$work/in"
 measure "63 packets of one cell waiting" 64
 named_far_behind >"$work/in"
 measure "steps that free nothing, the cell named 57 packets behind" 64
-marking_far_behind >"$work/in"
-measure "steps that mark, 62 packets waiting" 64
+single_far_behind >"$work/in"
+measure "a cell made and given up, 62 packets waiting" 64
 full_queue_of_one >"$work/in"
 measure "64 packets of one cell waiting, all refused" 64
 full_queue_of_many >"$work/in"
@@ -197,25 +215,32 @@ for line in "car 70" "car 0" "step" "no call"; do
     measure "'$line' over and over" 64
 done
 
+# The least time of five runs, in microseconds.
+least() {
+    for _ in 1 2 3 4 5; do
+        from=$(date +%s%N)
+        target/bin/session <"$work/in" >"$work/ours"
+        echo $((($(date +%s%N) - from) / 1000))
+    done | sort -n | head -n 1
+}
 # A marking step alone: rounds added, so that the chain's making falls out.
 marking_round() { # C
     for rounds in 1000 5000; do
-        marking "$1" $((4 * rounds)) >"$work/in"
-        least=
-        for _ in 1 2 3 4 5; do
-            from=$(date +%s%N)
-            target/bin/session <"$work/in" >"$work/ours"
-            spent=$((($(date +%s%N) - from) / 1000))
-            if [ -z "$least" ] || [ "$spent" -lt "$least" ]; then least=$spent; fi
-        done
-        echo "$least"
+        marking "$1" $((6 * rounds)) >"$work/in"
+        least
     done | awk 'NR == 1 { few = $1 } END { print ($1 - few) / 4000 }'
 }
-small=$(marking_round 512)
-large=$(marking_round 4096)
+mix_line() { # C
+    "$reference" generate 7 session lively "$1" "$lines" >"$work/in"
+    least | awk -v n="$lines" '{ print $1 / n }'
+}
+growth() { # WHAT SMALL LARGE
+    awk -v what="$1" -v a="$2" -v b="$3" 'BEGIN {
+        printf "%s takes %.2f us at C = 512 and %.2f us at C = 4,096: growth %.1f.\n", what, a, b, b / a }'
+}
 echo
-awk -v a="$small" -v b="$large" 'BEGIN {
-    printf "A round with one marking step takes %.2f us at C = 512 and %.2f us at C = 4,096: growth %.1f.\n", a, b, b / a }'
+growth "A round with one step that marks everything" "$(marking_round 512)" "$(marking_round 4096)"
+growth "A line of the mix" "$(mix_line 512)" "$(mix_line 4096)"
 
 echo
 echo "| input | C | calls | ours, million calls/s | reference, million calls/s | ratio |"

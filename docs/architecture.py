@@ -79,7 +79,9 @@ def crates():
     # middle
     d.box("calls", 385, 380, 140, 190, "code", ["calls", "fresh and the", "seven row calls"])
     d.box("marks", 545, 520, 140, 50, "code", ["marks", "roots, marks"])
-    d.box("collector", 545, 380, 140, 75, "code", ["collector", "apply, mark,", "sweep"])
+    d.box("collector", 545, 380, 140, 46, "code", ["collector", "apply, free"])
+    d.box("suspects", 545, 440, 140, 28, "code", ["suspects"])
+    d.box("walks", 545, 480, 140, 28, "code", ["walks"])
     d.box("audit", 710, 380, 140, 28, "code", ["audit"])
     d.box("audit_pointers", 710, 422, 140, 28, "code", ["audit_pointers"])
     d.box("audit_packets", 710, 464, 140, 28, "code", ["audit_packets"])
@@ -138,7 +140,9 @@ def crates():
     d.line([(210, 480), (202, 480), (202, 762)], arrow=False)
     d.line([(287, 702), (287, 778)])
     d.down("calls", "questions", 0.5, 0.3182)
-    d.down("collector", "marks")
+    d.down("collector", "suspects")
+    d.down("suspects", "walks")
+    d.down("walks", "marks")
     # marks: on questions and counts
     d.down("marks", "questions", 0.2, 0.854)
     d.down("marks", "counts", 0.9, 0.1864)
@@ -184,7 +188,7 @@ def legend(d, x, y, entries):
 
 
 def call():
-    d = Drawing(1060, 640)
+    d = Drawing(1060, 750)
     d.text(20, 28, "A row call: the line cons 1 0, third of a session", 15, "bold", "start")
     d.box("parse", 20, 50, 190, 62, "text", ["line_text::parse", "bytes to a request", "requestOf"])
     d.box("serve", 240, 50, 190, 62, "text", ["session_lines", "one loop over the lines", "Feeds"])
@@ -216,18 +220,23 @@ def call():
     d.box("take", 410, 440, 190, 62, "code", ["collector", "the oldest packet is taken;", "none waiting: idle"])
     d.box("apply", 625, 440, 190, 62, "code", ["counts", "its count changes one by", "one; its names given up"])
     d.box("stay", 840, 440, 200, 62, "code", ["marks::roots", "is the watched word", "still a root?"])
-    d.box("mark", 625, 550, 190, 62, "code", ["marks::mark", "every reached cell,", "in the scratch"])
-    d.box("sweep", 410, 550, 190, 62, "code", ["collector, cells", "sweep: free the rest,", "lower, join the free list"])
+    d.box("walk", 840, 550, 200, 62, "code", ["suspects, walks", "what hangs on its cell,", "and what of it is dead"])
+    d.box("free", 410, 550, 190, 62, "code", ["collector::freeing", "free the dead: lower,", "join the free list"])
     d.box("clear", 215, 550, 170, 62, "code", ["marks::clear", "the scratch"])
+    d.box("mark", 625, 660, 190, 62, "code", ["marks::mark", "every reached cell,", "in the scratch"])
+    d.box("sweep", 410, 660, 190, 62, "code", ["collector::sweep", "free the rest: lower,", "join the free list"])
     d.box("reply", 20, 550, 170, 62, "plain", ["reply", "kind, cells freed,", "the queue"])
     for a, b in [("step", "lent"), ("lent", "take"), ("take", "apply"), ("apply", "stay")]:
         x, y, w, h = d.boxes[a]
         d.line([(x + w, y + h / 2), (d.boxes[b][0] - 2, y + h / 2)])
-    for a, b in [("mark", "sweep"), ("sweep", "clear"), ("clear", "reply")]:
+    for a, b in [("walk", "free"), ("free", "clear"), ("clear", "reply"), ("mark", "sweep")]:
         x, y, w, h = d.boxes[a]
         d.line([(x, y + h / 2), (d.boxes[b][0] + d.boxes[b][2] + 2, y + h / 2)])
-    d.line([(940, 502), (940, 581), (817, 581)])
-    d.text(950, 560, "no", 12, anchor="start", colour="#555")
+    d.line([(940, 502), (940, 548)])
+    d.text(950, 530, "no", 12, anchor="start", colour="#555")
+    d.line([(940, 612), (940, 691), (817, 691)])
+    d.text(950, 640, "too many", 11, anchor="start", colour="#555")
+    d.line([(410, 691), (300, 691), (300, 614)])
     d.line([(880, 502), (880, 526), (300, 526), (300, 548)], dashed=True)
     d.text(600, 520, "yes: on a sound store nothing can be freed", 11, colour="#555")
     d.write("call.svg")

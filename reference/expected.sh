@@ -55,6 +55,7 @@ make() {
     loads) each_load "$1" cat ;;
     load-sums) each_load "$1" sha256sum ;;
     join) cat "$@" ;;
+    lines) awk -f "$@" ;;
     *)
         echo "expected.txt: no such kind: $kind" >&2
         return 1

@@ -1,6 +1,7 @@
 #!/bin/sh
-# What `rt` cannot try of the session program, whose standard input is a regular file there: input that comes in short reads, and reads and writes
-# that fail. A line for each test, and at the end 'N passed, M failed'. `rt check session` builds the program; another can be given as an argument.
+# What `rt` does not try of the session program, whose standard input is one regular file there: input that comes in short reads, reads and writes
+# that fail, and a further session. A line for each test, and at the end 'N passed, M failed'. `rt check session` builds the program; another can be given as an
+# argument.
 name=session
 # shellcheck source=tests/common.sh
 . "$(dirname "$0")/common.sh"
@@ -24,5 +25,9 @@ expect_failures "$stored/stdin"
 run_till_failure 'fresh 3\nste'
 echo '1 OK 0' >answered
 expect 'a read fails within a line' answered reading
+
+# The steps that let go of each structure look at what hangs there alone, or mark: the replies are the reference's.
+"$program" <"$root/reference/cases/given-up.session" >out 2>err
+expect 'structures of 1 to 66, 4,095 and 4,096 cells given up' "$root/reference/cases/given-up.replies" nothing
 
 conclude

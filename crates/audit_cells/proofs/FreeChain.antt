@@ -16,11 +16,11 @@ use Rattle.machine.specs.Table.{left, right, rootCount, cellCount, state, nameC
 use Rattle.machine.specs.Words.{isCell}
 use Rattle.machine.proofs.Chain.{linked-indices, total-occurrences, laid-wiped, chain-is}
 use Rattle.machine.proofs.Lists.{lastOf-snoc}
-use Rattle.machine.proofs.Range.{tested, not-both, lt-or-ge, and-both, and-first, and-second, every-at, total-same, total-lt, matching-same, matching-other, occurrences-append}
+use Rattle.machine.proofs.Range.{tested, not-both, lt-or-ge, and-both, and-first, and-second, every-at, total-same, total-lt, matching-same, matching-other, occurrences-append, refuted}
 use Rattle.machine.proofs.Table.{free-not-in-use}
 use Rattle.machine.proofs.Words.{cell-index, cell-number, index-cell}
 use Rattle.audit_cells.specs.FreeChain.{freeOrUsed, freeLaidOut, freeBit, freeCells, isFreeCell}
-use Rattle.audit_cells.proofs.Tests.{refuted, and-no-second}
+use Rattle.audit_cells.proofs.Tests.{and-no-second}
 
 module _ (t : List ℕ) where
   -- indices linked by their left words, from the number w to the number v

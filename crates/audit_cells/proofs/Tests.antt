@@ -1,17 +1,12 @@
 -- Tests that fail, and a range tested one number at a time.
 use mathlib.Core.Path.{_≡_, refl, sym, ap₂, _∙_}
-use mathlib.Core.Logic.{⊎-elim}
 use mathlib.Core.Bool.{Bool, true, false, not, _&&_}
 use Prim.Native.Nat.{ℕ, zero, suc, _+_, _<_}
 use native.Mathlib.Numerals.{add-one}
 use native.Mathlib.Omega.{arith}
 use borrow.Author.Tests.{not-true, not-false}
 use Rattle.machine.specs.Range.{every, total}
-use Rattle.machine.proofs.Range.{tested, not-both, and-both, every-at}
-
--- what cannot be true is false
-pub refuted : (b : Bool) → (b ≡ true → ⊥) → b ≡ false
-refuted b f = ⊎-elim (λ e. absurd (f e)) (λ e. e) (tested b)
+use Rattle.machine.proofs.Range.{tested, not-both, and-both, every-at, refuted}
 
 -- a call's answer r is the test b: the code asks `!r`
 pub passed : {r b : Bool} → r ≡ b → not r ≡ false → b ≡ true
@@ -39,9 +34,6 @@ second-fails a c h = and-no-first c (and-no-second a h)
 
 pub third-decides : {a b : Bool} (c : Bool) → a ≡ true → b ≡ true → c ≡ a && b && c
 third-decides c h k = rw (h, k)
-
-pub same-tests : (a b : Bool) → (a ≡ true → b ≡ true) → (b ≡ true → a ≡ true) → a ≡ b
-same-tests a b f g = ⊎-elim (λ e. e ∙ sym (f e)) (λ e. e ∙ sym (refuted b (λ h. not-both (g h) e))) (tested a)
 
 pub every-none : (p : ℕ → Bool) → every 0 p ≡ true
 unfolding every

@@ -16,7 +16,7 @@ use Rattle.machine.specs.Range.{every}
 use Rattle.machine.specs.Table.{rootCount, capacity, wordAt}
 use Rattle.machine.specs.Words.{isCell, ceiling}
 use Rattle.machine.proofs.Lists.{waiting-snoc}
-use Rattle.machine.proofs.Range.{tested, below-suc, and-both, and-first, and-second, or-right, every-at, every-all, matching-other}
+use Rattle.machine.proofs.Range.{tested, below-suc, and-both, and-first, and-second, or-right, every-at, every-all, matching-other, same-tests}
 use Rattle.machine.proofs.Replay.{replays-uses, replays-bound, replays-rest}
 use Rattle.machine.proofs.Ring.{packets-snoc}
 use Rattle.machine.proofs.Words.{cell-number, cell-index, index-cell}
@@ -24,7 +24,7 @@ use Rattle.queue.specs.declared.HeldSums.{HeldSums}
 use Rattle.queue.specs.Sums.{CounterSums, WithCount, atLeast, atMostCeiling}
 use Rattle.audit_packets.specs.Packets.{packetOn, oldest, cutTo, HeldAfter, stageSound, wordReplays, packetReplays, replaysAll}
 use Rattle.audit_cells.proofs.Cells.{cell-counts, counts-facts}
-use Rattle.audit_cells.proofs.Tests.{and-no-first, and-decides, same-tests}
+use Rattle.audit_cells.proofs.Tests.{and-no-first, and-decides}
 
 pub uses-by : (p : Packet) (x : ℕ) (k : Kind) → kindOf (p .kind) ≡ k → usesOf k (p .a) (p .b) (p .c) x ≡ uses p x
 unfolding uses

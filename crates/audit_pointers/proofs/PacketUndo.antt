@@ -19,7 +19,7 @@ use Rattle.machine.specs.Queue.{Packet}
 use Rattle.machine.specs.Range.{matching}
 use Rattle.machine.specs.Table.{left, right, capacity, tableLength, wordAt, putWord, inUse}
 use Rattle.machine.specs.Words.{isCell, ceiling, mostCells}
-use Rattle.machine.proofs.Range.{tested, and-both, or-right, matching-other}
+use Rattle.machine.proofs.Range.{tested, and-both, or-right, matching-other, same-tests}
 use Rattle.machine.proofs.Table.{word-other, length-putWord, capacity-putWord}
 use Rattle.machine.proofs.Undo.{within-is}
 use Rattle.machine.proofs.Words.{cell-index, index-cell}
@@ -31,7 +31,7 @@ use Rattle.audit_pointers.specs.UndoStages.{stage, UsedCell, Undoable, U
 use Rattle.audit_pointers.proofs.FieldPointers.{use-put, pointers-put}
 use Rattle.audit_pointers.proofs.EarlierFields.{AllPlaced, PlacedOf, Placed, all-placed, newer-step, Refielded, refielded, stage-field, Keeps, kept-undo}
 use Rattle.audit_pointers.proofs.PointerCounts.{nil-within}
-use Rattle.audit_cells.proofs.Tests.{same-tests, and-no-first, and-no-second, and-decides}
+use Rattle.audit_cells.proofs.Tests.{and-no-first, and-no-second, and-decides}
 
 -- a word is matched by no cell if it is nil
 nil-matches : (i : ℕ) → matching 0 (suc i) 1 ≡ 0

@@ -15,7 +15,7 @@ use Rattle.machine.specs.Queue.{Packet, packet, waiting}
 use Rattle.machine.specs.Packets.{Counter, root, cell, plus, minus, replaces, kindOf, usesOf, uses, changesOf, changes, movedBy, contains}
 use Rattle.machine.specs.Counts.{heldAtLeast}
 use Rattle.machine.specs.Questions.{firstNo, refusedBy, heldEnough}
-use Rattle.machine.proofs.Range.{tested, not-both, or-left, or-false, every-at, every-all, matching-same, matching-other}
+use Rattle.machine.proofs.Range.{tested, not-both, or-left, or-false, every-at, every-all, matching-same, matching-other, same-tests}
 use Rattle.machine.proofs.Lists.{and-true, everyOf-at, everyOf-all}
 use Rattle.machine.proofs.Words.{cell-index, cell-number, index-cell}
 use Rattle.queue.specs.declared.Sums.{Sums}
@@ -23,11 +23,6 @@ use Rattle.queue.specs.Sums.{atLeast, atMostCeiling}
 use Rattle.calls.specs.Early.{Replaces}
 use Rattle.calls.specs.Tests.{raisedWords, countWithin, raisedWithin, freeByEnd, codeLate}
 use Rattle.calls.specs.Tally.{CounterTally, TallyOf, heldTimes, heldAfter, pointersAfter, readNumber, consNumber, replaceNumber, upNumber, downNumber}
-
-pub bool-same : (a b : Bool) → (a ≡ true → b ≡ true) → (b ≡ true → a ≡ true) → a ≡ b
-bool-same true b f g = sym (f refl)
-bool-same false true f g = g refl
-bool-same false false f g = refl
 
 -- question 6 at one word
 abbrev wordHeld : List ℕ → List Packet → Packet → ℕ → Bool
@@ -37,7 +32,7 @@ wordHeld t ps p w = not (isCell (capacity t) w) || (eqb (uses p w) 0 || heldAtLe
 held-words : (t : List ℕ) (ps : List Packet) (p : Packet) (ws : List ℕ) → ((y : ℕ) → contains ws y ≡ false → uses p y ≡ 0)
     → heldEnough t ps p ≡ everyOf ws (wordHeld t ps p)
 unfolding heldEnough
-held-words t ps p ws none = bool-same (every (capacity t) test) (everyOf ws (wordHeld t ps p)) there back
+held-words t ps p ws none = same-tests (every (capacity t) test) (everyOf ws (wordHeld t ps p)) there back
   where
     test : ℕ → Bool
     test i = eqb (uses p (suc i)) 0 || heldAtLeast t ps i (uses p (suc i))

@@ -8,30 +8,23 @@ use native.Mathlib.Numerals.{add-one, sub-one}
 use lib.ListN.{length}
 use borrow.Author.Tests.{eq-eqb, ne-eqb}
 use Rattle.machine.specs.Range.{select}
-use Rattle.machine.specs.Table.{left, right, freeCell, capacity, firstFree, lastFree, scratchWords, wordAt, putWord, putEnds, putCell, inUse}
-use Rattle.machine.specs.Packets.{cell, minus}
+use Rattle.machine.specs.Table.{left, capacity, lastFree, scratchWords, wordAt, inUse}
 use Rattle.machine.specs.Step.{join}
 use Rattle.machine.specs.Facts.{TableShape}
 use Rattle.marks.specs.Marks.{isMarked}
-use Rattle.counts.specs.Changes.{moveFitting, Moves}
+use Rattle.collector.specs.FreedCells.{lowered}
 use Rattle.collector.specs.SweepPass.{isDead, freed, endLeft, leftBefore, passed, Passes, Sweeps}
-use Rattle.collector.proofs.SweepPass.{Good, passedTo, still-dead, passed-more, passed-good, passed-all, length-select}
-
--- a cell wiped and joined to the chain, which is empty or ends at a cell
-module _ (t : List ℕ) (i last : ℕ) (h : last ≡ lastFree t) (u : List ℕ) (wiped : u ≡ putCell t i (freeCell 0)) where
-  pub append-none : last ≡ 0 → (v : List ℕ) → v ≡ putEnds u (i + 1) (i + 1) → v ≡ join t i
-  unfolding join
-  append-none z v e = e ∙ rw (wiped, eq-eqb (lastFree t) 0 (sym h ∙ z), add-one i)
-
-  pub append-some : (last ≡ 0 → ⊥) → (first : ℕ) → first ≡ firstFree t → (v w : List ℕ) → v ≡ putWord u (last - 1) left (i + 1)
-      → w ≡ putEnds v first (i + 1) → w ≡ join t i
-  unfolding join
-  append-some d first g v w e f = f ∙ rw (e, g, wiped, h, ne-eqb (lastFree t) 0 (λ z. d (h ∙ z)), add-one i, sub-one (lastFree t))
+use Rattle.collector.proofs.FreedCells.{good, lower-good}
+use Rattle.collector.proofs.SweepPass.{passedTo, still-dead, passed-more, passed-good, passed-all, length-select}
 
 -- a cell freed
-pub free-is : (t : List ℕ) (i l r : ℕ) → r ≡ wordAt t i right → (u v w : List ℕ) → Moves t cell l minus 1 u → Moves u cell r minus 1 v → w ≡ join v i
-    → w ≡ freed t i l
-free-is t i l r e u v w f g h = h ∙ rw (g .moved, f .moved, e) (unfold freed moveFitting in refl)
+pub free-cell : (t : List ℕ) (i l : ℕ) → TableShape t → i < capacity t → (u : List ℕ) → u ≡ lowered t i l → TableShape u × (i < capacity u)
+free-cell t i l h b u e =
+    let g = lower-good t i l (capacity t) (good t h) in
+    rw e (g .shape, rw (g .cells) b)
+
+pub free-is : (t : List ℕ) (i l : ℕ) (u v : List ℕ) → u ≡ lowered t i l → v ≡ join u i → v ≡ freed t i l
+free-is t i l u v e f = f ∙ rw e (unfold freed in refl)
 
 pub end-none : (t : List ℕ) (end : ℕ) → end ≡ 0 → 0 ≡ endLeft t end
 unfolding endLeft
@@ -63,9 +56,6 @@ marked-live t s i h = rw h
 pub unmarked-dead : (t s : List ℕ) (i : ℕ) → isMarked s i ≡ false → isDead t s i ≡ inUse t i
 unfolding isDead
 unmarked-dead t s i h = rw h
-
-good : (t : List ℕ) → TableShape t → Good (capacity t) t
-good t h = record { cells = refl; shape = h }
 
 module _ (t s : List ℕ) (h : TableShape t) (n : ℕ) (l : n < capacity t) where
   -- the pass has come to index n

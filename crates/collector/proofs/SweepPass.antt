@@ -1,5 +1,5 @@
 -- One ascending pass that lowers, wipes and joins cell by cell frees what the machine's sweep frees, which lowers for all dead cells first.
-use mathlib.Core.Path.{_≡_, refl, sym, ap, ap₂, _∙_}
+use mathlib.Core.Path.{_≡_, refl, sym, ap, _∙_}
 use mathlib.Core.Logic.{⊎-elim, _≢_}
 use mathlib.Core.Bool.{Bool, true, false, cond, not, _&&_}
 use mathlib.Core.List.{List, [], _∷_, _++_, append-nil}
@@ -9,91 +9,15 @@ use lib.Dec.{ltb, eqb}
 use lib.ListN.{length, length-append}
 use borrow.Author.Tests.{eqb-true, eqb-false, eq-eqb, ne-eqb}
 use Rattle.machine.specs.Range.{select}
-use Rattle.machine.specs.Table.{stride, left, right, state, capacity, firstFree, lastFree, tableLength, wordAt, inUse}
-use Rattle.machine.specs.Packets.{cell, minus}
-use Rattle.machine.specs.Step.{moveCount, lowerPointers, join, joinAll, swept}
-use Rattle.machine.specs.Facts.{TableShape}
+use Rattle.machine.specs.Table.{stride, left, state, lastFree, wordAt, inUse}
+use Rattle.machine.specs.Step.{lowerPointers, join, joinAll, swept}
 use Rattle.machine.proofs.Range.{tested}
 use Rattle.machine.proofs.Lists.{Indices}
-use Rattle.machine.proofs.Moves.{length-move, capacity-move, lastFree-move, word-move}
-use Rattle.machine.proofs.Sweep.{joins}
 use Rattle.machine.proofs.Select.{select-indices}
-use Rattle.machine.proofs.Commute.{join-move}
 use Rattle.marks.specs.Marks.{isMarked}
+use Rattle.collector.specs.FreedCells.{lowered}
 use Rattle.collector.specs.SweepPass.{isDead, freed, endLeft, leftBefore, passed}
-use Rattle.counts.proofs.Changes.{shape-move}
-
--- a table that passes question 1, of c cells
-pub record Good (c : ℕ) (t : List ℕ) : Type 0 where
-  pub cells : capacity t ≡ c
-  pub shape : TableShape t
-
--- both pointers out of the cell at index i, the left one given, lower a count
-lower : List ℕ → ℕ → ℕ → List ℕ
-lower t i l = moveCount (moveCount t cell l minus 1) cell (wordAt t i right) minus 1
-
-module _ (t : List ℕ) (i l : ℕ) where
-  abbrev t₁ : List ℕ
-  t₁ = moveCount t cell l minus 1
-
-  lower-word : (j k : ℕ) → k < stride → k ≢ 3 → wordAt (lower t i l) j k ≡ wordAt t j k
-  unfolding lower
-  lower-word j k h d = word-move t₁ cell (wordAt t i right) minus 1 j k h d ∙ word-move t cell l minus 1 j k h d
-
-  lower-last : lastFree (lower t i l) ≡ lastFree t
-  unfolding lower
-  lower-last = lastFree-move t₁ cell (wordAt t i right) minus 1 ∙ lastFree-move t cell l minus 1
-
-  lower-good : (c : ℕ) → Good c t → Good c (lower t i l)
-  unfolding lower
-  lower-good c g = record {
-    cells = capacity-move t₁ cell (wordAt t i right) minus 1 ∙ capacity-move t cell l minus 1 ∙ g .cells;
-    shape = shape-move t₁ cell (wordAt t i right) minus 1 (shape-move t cell l minus 1 (g .shape));
-  }
-
-module _ (c : ℕ) (t : List ℕ) (g : Good c t) (i : ℕ) (h : i < c) where
-  room-of : tableLength (capacity t) ≤ length t
-  room-of = g .shape .room
-
-  below : i < capacity t
-  below = rw (g .cells) h
-
-  last-of : lastFree t ≤ capacity t
-  last-of = g .shape .last
-
-  join-good : Good c (join t i)
-  join-good =
-      let j = joins t i room-of below last-of in
-      let s = g .shape in
-      record {
-        cells = j .sameCapacity ∙ g .cells;
-        shape = record {
-          some = rw (j .sameCapacity) (s .some);
-          most = rw (j .sameCapacity) (s .most);
-          first = rw (j .sameCapacity)
-              (⊎-elim (λ e. rw (j .newFirst (eqb-true (lastFree t) 0 e)) below) (λ e. rw (j .sameFirst (eqb-false (lastFree t) 0 e)) (s .first))
-              (tested (eqb (lastFree t) 0)));
-          last = rw (j .newLast, j .sameCapacity) below;
-          room = rw (j .sameCapacity, j .sameLength) (s .room);
-        };
-      }
-
-  -- other cells' words stand, but for the left word of the chain's end
-  join-word : (j k : ℕ) → k < stride → j ≢ i → (k ≡ left → suc j ≢ lastFree t) → wordAt (join t i) j k ≡ wordAt t j k
-  join-word = joins t i room-of below last-of .stands
-
-  join-last : lastFree (join t i) ≡ suc i
-  join-last = joins t i room-of below last-of .newLast
-
-  -- the lowering for another cell and the joining of this one change places
-  join-lower : (j l : ℕ) → j ≢ i → lower (join t i) j l ≡ join (lower t j l) i
-  unfolding lower
-  join-lower j l d =
-      let t₁ = moveCount t cell l minus 1 in
-      ap₂ (λ (u : List ℕ) (w : ℕ). moveCount u cell w minus 1) (join-move t i l 1 room-of below last-of)
-      (join-word j right (omega arith) d (λ x. absurd (omega arith)))
-      ∙ join-move t₁ i (wordAt t j right) 1 (rw (capacity-move t cell l minus 1, length-move t cell l minus 1) room-of)
-      (rw (capacity-move t cell l minus 1) below) (rw (lastFree-move t cell l minus 1, capacity-move t cell l minus 1) last-of)
+use Rattle.collector.proofs.FreedCells.{Good, lower-word, lower-last, lower-good, join-good, join-word, join-last, join-lower}
 
 -- no index of the list is i
 abbrev Without : ℕ → List ℕ → Type 0
@@ -108,38 +32,38 @@ Distinct (i ∷ is) = Without i is × Distinct is
 module _ (l : ℕ → ℕ) where
   lowerAll : List ℕ → List ℕ → List ℕ
   lowerAll t [] = t
-  lowerAll t (i ∷ is) = lowerAll (lower t i (l i)) is
+  lowerAll t (i ∷ is) = lowerAll (lowered t i (l i)) is
 
   freeAll : List ℕ → List ℕ → List ℕ
   freeAll t [] = t
-  freeAll t (i ∷ is) = freeAll (join (lower t i (l i)) i) is
+  freeAll t (i ∷ is) = freeAll (join (lowered t i (l i)) i) is
 
   -- they are what the machine reads
   lower-all : (t : List ℕ) (is : List ℕ) → ((i : ℕ) → l i ≡ wordAt t i left) → lowerAll t is ≡ lowerPointers t is
-  unfolding lowerAll lowerPointers lower
+  unfolding lowerAll lowerPointers lowered
   lower-all t [] e = refl
   lower-all t (i ∷ is) e =
-      rw (e i) (lower-all (lower t i (wordAt t i left)) is (λ j. e j ∙ sym (lower-word t i (wordAt t i left) j left (omega arith) (omega arith))))
+      rw (e i) (lower-all (lowered t i (wordAt t i left)) is (λ j. e j ∙ sym (lower-word t i (wordAt t i left) j left (omega arith) (omega arith))))
 
   join-lowerAll : (c : ℕ) (t : List ℕ) → Good c t → (i : ℕ) → i < c → (is : List ℕ) → Without i is → lowerAll (join t i) is ≡ join (lowerAll t is) i
   unfolding lowerAll
   join-lowerAll c t g i h [] d = refl
   join-lowerAll c t g i h (j ∷ is) d =
-      ap (λ (u : List ℕ). lowerAll u is) (join-lower c t g i h j (l j) (d .0)) ∙ join-lowerAll c (lower t j (l j)) (lower-good t j (l j) c g) i h is (d .1)
+      ap (λ (u : List ℕ). lowerAll u is) (join-lower c t g i h j (l j) (d .0)) ∙ join-lowerAll c (lowered t j (l j)) (lower-good t j (l j) c g) i h is (d .1)
 
   -- one pass is two
   free-all : (c : ℕ) (t : List ℕ) → Good c t → (is : List ℕ) → Indices c is → Distinct is → freeAll t is ≡ joinAll (lowerAll t is) is
   unfolding freeAll lowerAll joinAll
   free-all c t g [] p d = refl
   free-all c t g (i ∷ is) p d =
-      let u = lower t i (l i) in
+      let u = lowered t i (l i) in
       let k = lower-good t i (l i) c g in
       free-all c (join u i) (join-good c u k i (p .0)) is (p .1) (d .1) ∙ ap (λ (v : List ℕ). joinAll v is) (join-lowerAll c u k i (p .0) is (d .0))
 
-  freeAll-snoc : (t : List ℕ) (is : List ℕ) (i : ℕ) → freeAll t (is ++ (i ∷ [])) ≡ join (lower (freeAll t is) i (l i)) i
+  freeAll-snoc : (t : List ℕ) (is : List ℕ) (i : ℕ) → freeAll t (is ++ (i ∷ [])) ≡ join (lowered (freeAll t is) i (l i)) i
   unfolding freeAll
   freeAll-snoc t [] i = refl
-  freeAll-snoc t (j ∷ is) i = freeAll-snoc (join (lower t j (l j)) j) is i
+  freeAll-snoc t (j ∷ is) i = freeAll-snoc (join (lowered t j (l j)) j) is i
 
   -- the words of a cell that is not freed stand, but for the left word of the chain's first end
   record Stands (c : ℕ) (t : List ℕ) (i : ℕ) (u : List ℕ) : Type 0 where
@@ -151,7 +75,7 @@ module _ (l : ℕ → ℕ) where
   unfolding freeAll
   stands c t g [] p i d = record { good = g; words = λ k h m n. refl; lefts = λ n. refl }
   stands c t g (j ∷ is) p i d =
-      let u = lower t j (l j) in
+      let u = lowered t j (l j) in
       let k = lower-good t j (l j) c g in
       let s = stands c (join u j) (join-good c u k j (p .0)) is (p .1) i (d .1) in
       let other : i ≢ j = λ e. d .0 (sym e) in
@@ -204,11 +128,6 @@ length-select-le (suc n) p = go (p n) (length-select n p) (length-select-le n p)
     go true e h = omega arith
     go false e h = omega arith
 
-pub select-same : (n : ℕ) (p q : ℕ → Bool) → ((i : ℕ) → i < n → p i ≡ q i) → select n p ≡ select n q
-unfolding select
-select-same zero p q e = refl
-select-same (suc n) p q e = rw (select-same n p q (λ i h. e i (omega arith)), e n (omega arith))
-
 module _ (t s : List ℕ) where
   abbrev lefts : ℕ → ℕ
   lefts i = wordAt t i left
@@ -251,9 +170,8 @@ module _ (t s : List ℕ) where
       passed-more = rw (still-dead, left-known) (go (isDead t s n) refl)
         where
           go : (b : Bool) → isDead t s n ≡ b
-              → cond b (join (moveCount (moveCount (passedTo n) cell (wordAt t n left) minus 1) cell (wordAt (passedTo n) n right) minus 1) n) (passedTo n)
-              ≡ passedTo (suc n)
-          go true e = unfold passedTo select in rw e (sym (unfold lower in freeAll-snoc lefts t (select n (isDead t s)) n))
+              → cond b (join (lowered (passedTo n) n (wordAt t n left)) n) (passedTo n) ≡ passedTo (suc n)
+          go true e = unfold passedTo select in rw e (sym (freeAll-snoc lefts t (select n (isDead t s)) n))
           go false e = unfold passedTo select in rw (e, append-nil)
 
       pub passed-good : Good c (passedTo n)

@@ -1,7 +1,7 @@
 -- The step's contract, for any table, queue and scratch.
 use mathlib.Core.Path.{_≡_}
-use mathlib.Core.Bool.{true, cond}
-use mathlib.Core.List.{List, []}
+use mathlib.Core.Logic.{_⊎_}
+use mathlib.Core.List.{List}
 use Prim.Native.Nat.{ℕ, suc, _<_}
 use lib.ListN.{length}
 use Rattle.machine.specs.declared.Queue.{Queue}
@@ -11,7 +11,8 @@ use Rattle.machine.specs.Packets.{minus, changes}
 use Rattle.machine.specs.Calls.{step, refused, idle, applied, store}
 use Rattle.machine.specs.Step.{named, applyPacket, unreached, swept, cleared, outcome, stepped}
 use Rattle.machine.specs.Questions.{firstNo, early}
-use Rattle.machine.specs.ShortWay.{watched, staysRoot}
+use Rattle.machine.specs.ShortWay.{watched}
+use Rattle.machine.specs.Suspects.{localDead}
 use Rattle.machine.specs.Answers.{stepReply}
 use Rattle.machine.specs.Promise.{Untouched}
 use Rattle.collector.specs.declared.Stepped.{Stepped}
@@ -21,34 +22,30 @@ use Rattle.counts.specs.Changes.{applyFitting, ChangesFit}
 abbrev pub oldest : Queue → Packet
 oldest q = slot q (q .place)
 
--- What a sound store gives a step: each change of the oldest packet fits its counter, and with the packet applied every cell in use is reached where its
--- watched word is no cell or still a root.
+-- What a sound store gives a step: each change of the oldest packet fits its counter, and with the packet applied the dead cells hang on its watched word,
+-- as the local way tells.
 pub record Premises (t : List ℕ) (q : Queue) : Type 0 where
   pub fit : ChangesFit t (changes (oldest q))
-  pub still : (staysRoot (applyPacket t (oldest q)) (watched (oldest q)) ≡ true → unreached (applyPacket t (oldest q)) ≡ [])
+  pub local : localDead (applyPacket t (oldest q)) (watched (oldest q)) ≡ unreached (applyPacket t (oldest q))
 
 -- the packet applied in counters of 16 bits: its changes that fit are made, and it names its cells no longer
 abbrev pub applyPacketFitting : List ℕ → Packet → List ℕ
 applyPacketFitting t p = named minus (applyFitting t (changes p)) p
 
--- the table t with the packet p applied: nothing is freed where p's watched word is no cell or still a root
-unfoldable pub collected : List ℕ → Packet → List ℕ
-collected t p = cond (staysRoot t (watched p)) t (swept t (unreached t))
-
-unfoldable pub freedNumber : List ℕ → Packet → ℕ
-freedNumber t p = cond (staysRoot t (watched p)) 0 (length (unreached t))
-
--- what mark and sweep give on any store past questions 1 and 2
-pub record Collects (t s t′ s′ : List ℕ) (n : ℕ) : Type 0 where
-  pub table : t′ ≡ swept t (unreached t)
-  pub number : n ≡ length (unreached t)
+-- the cells at the indices dead freed, n of them
+pub record Frees (t dead s t′ s′ : List ℕ) (n : ℕ) : Type 0 where
+  pub table : t′ ≡ swept t dead
+  pub number : n ≡ length dead
   pub scratch : s′ ≡ cleared (scratchWords (capacity t)) s
 
--- what the code computes for the packet p, on any store past questions 1 and 2
-pub record Applies (t : List ℕ) (p : Packet) (s t′ s′ : List ℕ) (n : ℕ) : Type 0 where
-  pub table : t′ ≡ collected (applyPacketFitting t p) p
-  pub number : n ≡ freedNumber (applyPacketFitting t p) p
-  pub scratch : s′ ≡ cleared (scratchWords (capacity t)) s
+-- what the code frees where the watched word is w, on any store past questions 1 and 2: what no root reaches, or what the local way tells, which is nothing
+-- where w is no cell or still a root
+abbrev pub Collects : List ℕ → ℕ → List ℕ → List ℕ → List ℕ → ℕ → Type 0
+Collects t w s t′ s′ n = Frees t (unreached t) s t′ s′ n ⊎ Frees t (localDead t w) s t′ s′ n
+
+-- and what it does with the packet p
+abbrev pub Applies : List ℕ → Packet → List ℕ → List ℕ → List ℕ → ℕ → Type 0
+Applies t p = Collects (applyPacketFitting t p) (watched p)
 
 pub record Steps (t : List ℕ) (q : Queue) (s : List ℕ) (r : Stepped) (t′ s′ : List ℕ) : Type 0 where
   -- questions 1 and 2, on any store: the first "no" gives its number, and nothing lent changes

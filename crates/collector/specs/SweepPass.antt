@@ -6,10 +6,10 @@ use Prim.Native.Nat.{ℕ, suc, pred, _≤_}
 use lib.Dec.{eqb}
 use lib.ListN.{length}
 use Rattle.machine.specs.Range.{select}
-use Rattle.machine.specs.Table.{left, right, capacity, wordAt, inUse}
-use Rattle.machine.specs.Packets.{cell, minus}
-use Rattle.machine.specs.Step.{moveCount, join, swept}
+use Rattle.machine.specs.Table.{left, capacity, wordAt, inUse}
+use Rattle.machine.specs.Step.{join, swept}
 use Rattle.marks.specs.Marks.{isMarked}
+use Rattle.collector.specs.FreedCells.{lowered}
 
 -- in use and not marked in the scratch s
 unfoldable pub isDead : List ℕ → List ℕ → ℕ → Bool
@@ -17,7 +17,7 @@ isDead t s i = not (isMarked s i) && inUse t i
 
 -- the cell at index i, whose left word is l, freed
 unfoldable pub freed : List ℕ → ℕ → ℕ → List ℕ
-freed t i l = join (moveCount (moveCount t cell l minus 1) cell (wordAt t i right) minus 1) i
+freed t i l = join (lowered t i l) i
 
 -- the left word of the chain's end, or 0
 unfoldable pub endLeft : List ℕ → ℕ → ℕ

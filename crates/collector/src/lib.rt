@@ -1,4 +1,5 @@
 // The collector's step: the oldest packet is applied, and the cells in use that no root reaches any more are freed.
+mod freeing;
 mod sweep;
 
 use counts::names::unname_packet;
@@ -8,12 +9,18 @@ use machine::StepAnswer;
 use marks::roots::stays_root;
 use marks::roots::watched_of;
 use queue::Packet;
+use suspects::dead_of;
+use walks::MOST;
+ghost use mathlib.Core.Path.{_≡_};
+ghost use mathlib.Core.Bool.{false};
 ghost use Prim.Native.Nat.{_≤_};
 ghost use lib.ListN.{length};
 ghost use Rattle.machine.specs.Table.{capacity, scratchWords};
+ghost use Rattle.machine.specs.Step.{unreached};
 ghost use Rattle.machine.specs.Facts.{TableShape};
+ghost use Rattle.machine.specs.ShortWay.{staysRoot};
 ghost use Rattle.queue.specs.Sums.{packetOf};
-ghost use Rattle.collector.specs.Steps.{Collects, Applies, Steps};
+ghost use Rattle.collector.specs.Steps.{Frees, Collects, Applies, Steps};
 
 // A step's answer, and the queue afterwards.
 pub struct Stepped {
@@ -24,7 +31,7 @@ pub struct Stepped {
 // Mark and sweep: how many cells were freed.
 fn collect(table: &mut [u16], scratch: &mut [u16]) -> u16
     requires { ⌜ TableShape (now table) × (scratchWords (capacity (now table)) ≤ length (now scratch)) ⌝ }
-    ensures { λ r. ⌜ Collects (now (table .entry)) (now (scratch .entry)) (now (table .exit)) (now (scratch .exit)) r ⌝ }
+    ensures { λ r. ⌜ Frees (now (table .entry)) (unreached (now (table .entry))) (now (scratch .entry)) (now (table .exit)) (now (scratch .exit)) r ⌝ }
 {
     let capacity = cells::capacity_of(table);
     marks::mark(table, scratch);
@@ -33,8 +40,24 @@ fn collect(table: &mut [u16], scratch: &mut [u16]) -> u16
     freed
 }
 
+// What hangs on the watched cell alone, or where that is too much, mark and sweep: how many cells were freed.
+fn collect_from(table: &mut [u16], watched: u16, scratch: &mut [u16]) -> u16
+    requires { ⌜ TableShape (now table) × (scratchWords (capacity (now table)) ≤ length (now scratch)) × (staysRoot (now table) watched ≡ false) ⌝ }
+    ensures { λ r. ⌜ Collects (now (table .entry)) watched (now (scratch .entry)) (now (table .exit)) (now (scratch .exit)) r ⌝ }
+{
+    let capacity = cells::capacity_of(table);
+    let mut dead = [0u16; MOST];
+    let n = dead_of(table, watched, &mut dead);
+    if MOST < n {
+        return collect(table, scratch);
+    }
+    freeing::free_all(table, &dead, n);
+    marks::clear(scratch, capacity);
+    n as u16
+}
+
 // The oldest packet, which has left the queue, is applied and names its cells no longer: how many cells were freed. Where its watched word is no cell
-// or still a root, nothing can be freed on a sound store, and mark and sweep are skipped.
+// or still a root, nothing hangs on it, and nothing is freed.
 fn apply_oldest(table: &mut [u16], oldest: Packet, scratch: &mut [u16]) -> u16
     requires { ⌜ TableShape (now table) × (scratchWords (capacity (now table)) ≤ length (now scratch)) ⌝ }
     ensures { λ r. ⌜ Applies (now (table .entry)) (packetOf oldest) (now (scratch .entry)) (now (table .exit)) (now (scratch .exit)) r ⌝ }
@@ -47,7 +70,7 @@ fn apply_oldest(table: &mut [u16], oldest: Packet, scratch: &mut [u16]) -> u16
         marks::clear(scratch, capacity);
         return 0;
     }
-    collect(table, scratch)
+    collect_from(table, watched, scratch)
 }
 
 // One step, for any table, queue and scratch. The queue is copied once, into `rest`, and the oldest packet taken out of it there.

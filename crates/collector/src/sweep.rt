@@ -1,37 +1,19 @@
 // The sweep: one ascending pass over the cells that frees those in use without a mark.
-use counts::cell_down;
+use crate::freeing::append;
+use crate::freeing::lower;
 ghost use mathlib.Core.Path.{_≡_};
 ghost use Prim.Native.Nat.{_<_, _≤_};
 ghost use lib.ListN.{length};
 ghost use Rattle.machine.specs.Table.{capacity, scratchWords};
-ghost use Rattle.machine.specs.Step.{join};
 ghost use Rattle.machine.specs.Facts.{TableShape};
 ghost use Rattle.collector.specs.SweepPass.{freed, leftBefore, endLeft, Passes, Sweeps};
 
-// A wiped cell joins the free chain at its end.
-fn append(table: &mut [u16], index: u16)
-    requires { ⌜ TableShape (now table) × (index < capacity (now table)) ⌝ }
-    ensures { λ r. ⌜ now (table .exit) ≡ join (now (table .entry)) index ⌝ }
-{
-    let first = cells::first_free(table);
-    let last = cells::last_free(table);
-    cells::set_free(table, index as usize, 0);
-    if last == 0 {
-        cells::set_ends(table, index + 1, index + 1);
-        return;
-    }
-    cells::set_field(table, (last - 1) as usize, cells::LEFT, index + 1);
-    cells::set_ends(table, first, index + 1);
-}
-
-// The cell at an index freed: the counts of the cells in its fields fall.
+// The cell at an index freed.
 fn free(table: &mut [u16], index: u16, left: u16)
     requires { ⌜ TableShape (now table) × (index < capacity (now table)) ⌝ }
     ensures { λ r. ⌜ now (table .exit) ≡ freed (now (table .entry)) index left ⌝ }
 {
-    let right = cells::field(table, index as usize, cells::RIGHT);
-    cell_down(table, left, 1);
-    cell_down(table, right, 1);
+    lower(table, index, left);
     append(table, index);
 }
 

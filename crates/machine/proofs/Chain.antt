@@ -21,7 +21,7 @@ use Rattle.machine.proofs.Table.{free-not-in-use, not-in-use-free}
 use Rattle.machine.proofs.Words.{cell-index, cell-number, index-cell}
 
 -- indices as numbers
-matching-suc : (w x n : ℕ) → matching (suc w) (suc x) n ≡ matching w x n
+pub matching-suc : (w x n : ℕ) → matching (suc w) (suc x) n ≡ matching w x n
 unfolding matching
 matching-suc w x n = rw (eqb·suc-suc w x)
 

@@ -7,7 +7,7 @@ use Prim.Native.Nat.{ℕ, zero, suc, _+_, _*_, _≤_, _<_}
 use native.Mathlib.Omega.{arith}
 use lib.Dec.{ltb, eqb}
 use lib.ListN.{length}
-use borrow.Author.Tests.{ltb-true, lt-ltb, le-ltb, eqb-true, eqb-false}
+use borrow.Author.Tests.{ltb-true, ltb-false, lt-ltb, le-ltb, eqb-true, eqb-false}
 use Rattle.machine.specs.Range.{matching, occurrences}
 use Rattle.machine.specs.Table.{stride, right, rootCount, state, nameCount, capacity, firstFree, lastFree, tableLength, wordAt, inUse}
 use Rattle.machine.specs.Queue.{Packet}
@@ -89,6 +89,10 @@ occurs-contains x (w ∷ ws) = ⊎-elim here (λ e. there e (occurs-contains x w
     there e ih =
         let none : matching w x 1 + occurrences x ws ≡ occurrences x ws = omega (arith, matching-other w x 1 (eqb-false w x e)) in
         rw e (ap (ltb 0) none ∙ ih)
+
+-- a list that does not have x has it nowhere
+pub none-contained : (x : ℕ) (ws : List ℕ) → contains ws x ≡ false → occurrences x ws ≡ 0
+none-contained x ws e = let z = ltb-false 0 (occurrences x ws) (occurs-contains x ws ∙ e) in omega arith
 
 sum-some : (a b : ℕ) → ltb 0 (a + b) ≡ ltb 0 a || ltb 0 b
 sum-some zero b = let none : 0 + b ≡ b = omega arith in ap (ltb 0) none

@@ -48,6 +48,13 @@ and-second a b h = and-eq-true-iff a b .0 h .1
 pub not-both : {b : Bool} → b ≡ true → b ≡ false → ⊥
 not-both h k = true≢false (sym h ∙ k)
 
+pub refuted : (b : Bool) → (b ≡ true → ⊥) → b ≡ false
+refuted b f = ⊎-elim (λ e. absurd (f e)) (λ e. e) (tested b)
+
+-- two tests that imply each other
+pub same-tests : (a b : Bool) → (a ≡ true → b ≡ true) → (b ≡ true → a ≡ true) → a ≡ b
+same-tests a b f g = ⊎-elim (λ e. e ∙ sym (f e)) (λ e. e ∙ sym (refuted b (λ h. not-both (g h) e))) (tested a)
+
 -- what `every` says of each number below the bound, and back
 pub every-at : (n : ℕ) (p : ℕ → Bool) → every n p ≡ true → (i : ℕ) → i < n → p i ≡ true
 unfolding every

@@ -3,7 +3,7 @@ use mathlib.Core.Path.{_≡_, refl, sym, ap, ap₂, _∙_}
 use mathlib.Core.Logic.{⊎-elim, _↔_}
 use mathlib.Core.Bool.{Bool, true, false, cond, not, _&&_, _||_, false≢true}
 use mathlib.Core.List.{List, [], _∷_, _++_}
-use Prim.Native.Nat.{ℕ, zero, suc, _+_, _<_}
+use Prim.Native.Nat.{ℕ, zero, suc, _+_, _≤_, _<_}
 use native.Mathlib.Omega.{arith}
 use native.Mathlib.Nat.{not-suc-le-zero}
 use lib.Dec.{eqb}
@@ -15,11 +15,12 @@ use Rattle.machine.specs.Packets.{contains}
 use Rattle.machine.specs.Reached.{Reached, reached}
 use Rattle.machine.specs.Step.{unreached}
 use Rattle.machine.specs.Facts.{Ascending, Dead}
-use Rattle.machine.proofs.Range.{tested, not-both, below-suc, or-true, or-left, or-right, and-both, and-first, and-second, exists-some, matching-same, matching-other, occurrences-append}
+use Rattle.machine.proofs.Range.{tested, not-both, below-suc, or-true, or-left, or-right, and-both, and-first, and-second, exists-some, matching-same, matching-other, occurrences-append, total-le}
 use Rattle.machine.proofs.Lists.{Indices, none-past, select-none}
 use Rattle.machine.proofs.Reached.{reached-is}
+use Rattle.machine.proofs.Chain.{total-occurrences}
 
-contains-append : (xs ys : List ℕ) (i : ℕ) → contains (xs ++ ys) i ≡ contains xs i || contains ys i
+pub contains-append : (xs ys : List ℕ) (i : ℕ) → contains (xs ++ ys) i ≡ contains xs i || contains ys i
 unfolding contains
 contains-append [] ys i = refl
 contains-append (x ∷ xs) ys i = ap (λ (b : Bool). eqb x i || b) (contains-append xs ys i) ∙ or-assoc (eqb x i) (contains xs i) (contains ys i)
@@ -119,6 +120,12 @@ select-once (suc n) p i l = ⊎-elim (λ m. inside m (select-once n p i m)) last
         ∙ ap₂ _+_ (none-past n (select n p) (select-indices n p) i (omega arith)) (ap (λ (k : ℕ). cond (p n) k 0) (matching-same n i 1 (sym e)) ∙ ap (λ (k : ℕ). cond (p k) 1 0) (sym e))
         ∙ omega arith
 
+-- the same tests select the same numbers
+pub select-same : (n : ℕ) (p q : ℕ → Bool) → ((i : ℕ) → i < n → p i ≡ q i) → select n p ≡ select n q
+unfolding select
+select-same zero p q e = refl
+select-same (suc n) p q e = rw (select-same n p q (λ i h. e i (omega arith)), e n (omega arith))
+
 -- the cells that a step frees
 pub dead-is : (t : List ℕ) → Dead t (unreached t)
 unfolding unreached
@@ -155,3 +162,9 @@ selected-some n p h = ⊎-elim (λ e. e) (λ e. absurd (none e)) (tested (exists
 
     none : exists n p ≡ false → ⊥
     none e = let z = ap length (select-none n p (fails e)) in omega arith
+
+-- numbers that pass, each once, are no more than all that pass
+pub few-selected : (n : ℕ) (p : ℕ → Bool) (is : List ℕ) → Indices n is → ((i : ℕ) → i < n → occurrences i is ≤ cond (p i) 1 0)
+    → length is ≤ length (select n p)
+few-selected n p is below once =
+    omega (arith, select-length n p, total-occurrences n is below, total-le n (λ i. occurrences i is) (λ i. cond (p i) 1 0) once)

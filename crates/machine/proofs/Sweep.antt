@@ -19,6 +19,11 @@ use Rattle.machine.proofs.Table.{Inside, inside-putCell, cell-word, fre
 use Rattle.machine.proofs.Moves.{length-move, capacity-move, firstFree-move, lastFree-move, past-move, word-move, count-move}
 use Rattle.machine.proofs.Lists.{contains-cons, lastOf-snoc, last-occurs, Indices}
 
+pub out-append : (t : List ℕ) (is js : List ℕ) (x : ℕ) → pointersOut t (is ++ js) x ≡ pointersOut t is x + pointersOut t js x
+unfolding pointersOut
+out-append t [] js x = omega arith
+out-append t (i ∷ is) js x = omega (arith, out-append t is js x)
+
 -- two tables alike but for the cell counts
 pub record SameButCounts (t t′ : List ℕ) : Type 0 where
   pub sameLength : length t′ ≡ length t

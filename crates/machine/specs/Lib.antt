@@ -21,6 +21,7 @@ pub mod RootsByCell
 pub mod Counters
 pub mod Cases
 pub mod Stages
--- what a step's code asks before it marks: no promise speaks of it
+-- what a step's code does instead of marking: no promise speaks of it
 pub mod ShortWay
+pub mod Suspects
 pub mod WrongAnswers

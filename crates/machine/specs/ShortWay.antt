@@ -1,5 +1,5 @@
 -- The short way of a step, no part of the machine's definition: one word of the taken packet tells whether anything can be freed.
--- Where that word is no cell or still a root, all that the packet names is still reached, on a sound store (soundness/proofs/ShortWay):
+-- Where that word is no cell or still a root, all that the packet names is still reached, on a sound store (soundness/proofs/WhatWasReached):
 -- b of kind 1 and a of kind 4 have their root counts raised; c of kinds 3 and 6 is held besides a, and only a's hold is given up; a of kinds 3 and 6,
 -- and a and b of kind 2, are in fields of c, unless a waiting packet detached them and names them.
 use mathlib.Core.Bool.{Bool, not, _||_}

@@ -256,6 +256,25 @@ step-entries =
     ∷ gives (lent (set alone 7 2) emptyQueue) step idle (lent (set alone 7 2) emptyQueue)
     ∷ []
 
+-- steps that let go of a cell on which others hang; four words of scratch are to be cleared
+abbrev pub hanging-entries : List Entry
+hanging-entries =
+    -- the second cell freed although the fourth, which is held, points to it, or the third, which hangs on the second
+    gives (store (4 ∷ 0 ∷ 0 ∷ 2 ∷ 0 ∷ 1 ∷ 0 ∷ 1 ∷ 1 ∷ 3 ∷ 0 ∷ 0 ∷ 2 ∷ 1 ∷ 0 ∷ 0 ∷ 32775 ∷ 0 ∷ 1 ∷ 1 ∷ 0 ∷ 2 ∷ 0 ∷ 1 ∷ 0 ∷ 1 ∷ 0 ∷ 77 ∷ []) (only (packet 5 1 1 0))
+    (7 ∷ 7 ∷ 7 ∷ 7 ∷ 9 ∷ [])) step (applied 5 1)
+    (store (4 ∷ 1 ∷ 1 ∷ 0 ∷ 0 ∷ 0 ∷ 0 ∷ 0 ∷ 0 ∷ 3 ∷ 0 ∷ 0 ∷ 1 ∷ 1 ∷ 0 ∷ 0 ∷ 32775 ∷ 0 ∷ 1 ∷ 1 ∷ 0 ∷ 2 ∷ 0 ∷ 1 ∷ 0 ∷ 1 ∷ 0 ∷ 77 ∷ []) (at 1 0 emptyQueue)
+    (0 ∷ 0 ∷ 0 ∷ 0 ∷ 9 ∷ []))
+    -- a root entered: the second cell freed although it is held, or the third, which hangs on it
+    ∷ gives (store (3 ∷ 0 ∷ 0 ∷ 2 ∷ 0 ∷ 1 ∷ 0 ∷ 1 ∷ 1 ∷ 3 ∷ 0 ∷ 1 ∷ 1 ∷ 1 ∷ 0 ∷ 0 ∷ 0 ∷ 0 ∷ 1 ∷ 1 ∷ 0 ∷ 77 ∷ []) (only (packet 5 1 1 0)) (7 ∷ 7 ∷ 7 ∷ 9 ∷ []))
+    step (applied 5 1)
+    (store (3 ∷ 1 ∷ 1 ∷ 0 ∷ 0 ∷ 0 ∷ 0 ∷ 0 ∷ 0 ∷ 3 ∷ 0 ∷ 1 ∷ 0 ∷ 1 ∷ 0 ∷ 0 ∷ 0 ∷ 0 ∷ 1 ∷ 1 ∷ 0 ∷ 77 ∷ []) (at 1 0 emptyQueue) (0 ∷ 0 ∷ 0 ∷ 9 ∷ []))
+    -- a ring of three cells, given up at the third, kept for its own pointers, its tail dropped, or the four freed in the order in which they are met
+    ∷ gives (store (4 ∷ 0 ∷ 0 ∷ 2 ∷ 4 ∷ 0 ∷ 1 ∷ 1 ∷ 0 ∷ 3 ∷ 0 ∷ 0 ∷ 1 ∷ 1 ∷ 0 ∷ 1 ∷ 0 ∷ 1 ∷ 1 ∷ 1 ∷ 1 ∷ 0 ∷ 0 ∷ 0 ∷ 1 ∷ 1 ∷ 0 ∷ 77 ∷ []) (only (packet 5 3 1 0))
+    (7 ∷ 7 ∷ 7 ∷ 7 ∷ 9 ∷ [])) step (applied 5 4)
+    (store (4 ∷ 1 ∷ 4 ∷ 2 ∷ 0 ∷ 0 ∷ 0 ∷ 0 ∷ 0 ∷ 3 ∷ 0 ∷ 0 ∷ 0 ∷ 0 ∷ 0 ∷ 4 ∷ 0 ∷ 0 ∷ 0 ∷ 0 ∷ 0 ∷ 0 ∷ 0 ∷ 0 ∷ 0 ∷ 0 ∷ 0 ∷ 77 ∷ []) (at 1 0 emptyQueue)
+    (0 ∷ 0 ∷ 0 ∷ 0 ∷ 9 ∷ []))
+    ∷ []
+
 -- place 63 not followed by 0: a packet taken there, and one appended behind it
 abbrev pub ring-entries : List Entry
 ring-entries =
@@ -441,6 +460,7 @@ pub record WrongAnswers : Type 0 where
   pub names : AllOnly named-entries
   pub freshes : AllOnly fresh-entries
   pub steps : AllOnly step-entries
+  pub hanging : AllOnly hanging-entries
   pub place-63 : AllOnly ring-entries
   pub audits : AllOnly audit-entries
   pub S1 : AllOnly S1-entries

@@ -11,7 +11,7 @@ ghost use Rattle.machine.specs.Facts.{TableShape};
 ghost use Rattle.machine.specs.ShortWay.{watchedOf, staysRoot};
 
 // Whether a cell is a root.
-pub(crate) fn rooted(table: &[u16], index: usize) -> bool
+pub fn rooted(table: &[u16], index: usize) -> bool
     requires { ⌜ tableLength (suc index) ≤ length (now table) ⌝ }
     ensures { λ r. ⌜ r ≡ isRoot (now (table .entry)) index ⌝ }
 {

@@ -1,14 +1,14 @@
 -- The cells in use that are not reached are freed. No waiting packet names one, so every stage loses just its entries, and the lowered
 -- counts are the pointers that are left.
-use mathlib.Core.Path.{_≡_, refl, sym, ap, ap₂, _∙_}
+use mathlib.Core.Path.{_≡_, refl, sym, ap, _∙_}
 use mathlib.Core.Logic.{_⊎_, inl, inr, ⊎-elim, _≢_}
 use mathlib.Core.Bool.{Bool, true, false, cond, not, _&&_}
 use mathlib.Core.List.{List, [], _∷_, _++_, map}
-use Prim.Native.Nat.{ℕ, zero, suc, _+_, _≤_, _<_}
+use Prim.Native.Nat.{ℕ, suc, _+_, _≤_, _<_}
 use native.Mathlib.Omega.{arith}
 use lib.Dec.{ltb, eqb}
 use borrow.Author.Tests.{ltb-false, le-ltb, eqb-true, eqb-false}
-use Rattle.machine.specs.Range.{total, select, matching, occurrences, lastOf}
+use Rattle.machine.specs.Range.{occurrences, lastOf}
 use Rattle.machine.specs.Table.{stride, left, right, rootCount, cellCount, state, nameCount, capacity, firstFree, lastFree, wordAt, inUse, isFree}
 use Rattle.machine.specs.Queue.{Packet}
 use Rattle.machine.specs.Packets.{names, contains, isNamed, timesNamed}
@@ -16,7 +16,7 @@ use Rattle.machine.specs.Reached.{isRootByQueue, pointsTo, begun, onward, Reach
 use Rattle.machine.specs.Step.{unreached, swept}
 use Rattle.machine.specs.Audit.{packetLegal}
 use Rattle.machine.specs.Facts.{Linked, Chain, pointersOut, Sweep}
-use Rattle.machine.proofs.Range.{tested, lt-or-ge, not-both, or-left, or-right, occurrences-append, total-same}
+use Rattle.machine.proofs.Range.{tested, lt-or-ge, not-both, or-left, or-right, occurrences-append}
 use Rattle.machine.proofs.Table.{free-not-in-use}
 use Rattle.machine.proofs.Lists.{at-most-one, last-occurs, Indices, none-past}
 use Rattle.machine.proofs.Chain.{linked-indices}
@@ -24,32 +24,14 @@ use Rattle.machine.proofs.Reached.{reached-is}
 use Rattle.machine.proofs.RootsByCell.{Counted, by-queue, by-cell}
 use Rattle.machine.proofs.Select.{select-indices, select-once, dead-is}
 use Rattle.machine.proofs.Sweep.{sweeps}
-use Rattle.soundness.proofs.Views.{nil-no-cell, View, shown, entries, seen, seen-same, seen-none, Same, All, all-map, earlier, earlier-same, earlier-entry, stages-same}
+use Rattle.soundness.proofs.Views.{View, shown, seen, seen-same, seen-none, Same, All, all-map, earlier, earlier-same, earlier-entry, stages-same}
 use Rattle.soundness.proofs.LegalPackets.{Fit, fit-nil, LegalPacket, WrittenIn, legal-written, named-fit, named-detached, written-map}
 use Rattle.soundness.proofs.Stages.{shown-used, shown-free}
 use Rattle.soundness.proofs.Facts.{Facts, Live, last-within, free-zero, all-below}
 use Rattle.soundness.proofs.FreeChain.{chain-free}
 use Rattle.soundness.proofs.NameCounts.{none-named}
 use Rattle.soundness.proofs.ReachedCells.{points-by, points-cases, reached-used, reached-grows}
-use Rattle.soundness.proofs.Masks.{mask, masked, unmasked, WritesShown, mask-earlier, unwritten-earlier, seen-split, mask-stages}
-
--- the pointers out of the cells that pass a test, as a sum
-out-append : (t : List ℕ) (is js : List ℕ) (x : ℕ) → pointersOut t (is ++ js) x ≡ pointersOut t is x + pointersOut t js x
-unfolding pointersOut
-out-append t [] js x = omega arith
-out-append t (i ∷ is) js x = omega (arith, out-append t is js x)
-
-fieldsAt : List ℕ → ℕ → ℕ → ℕ
-fieldsAt t x i = matching (wordAt t i left) x 1 + matching (wordAt t i right) x 1
-
-out-select : (t : List ℕ) (n : ℕ) (d : ℕ → Bool) (x : ℕ) → pointersOut t (select n d) x ≡ total n (λ i. cond (d i) (fieldsAt t x i) 0)
-unfolding select total pointersOut fieldsAt
-out-select t zero d x = refl
-out-select t (suc n) d x = out-append t (select n d) (cond (d n) (n ∷ []) []) x ∙ ap₂ _+_ (out-select t n d x) (last (d n))
-  where
-    last : (b : Bool) → pointersOut t (cond b (n ∷ []) []) x ≡ cond b (fieldsAt t x n) 0
-    last true = omega arith
-    last false = refl
+use Rattle.soundness.proofs.Masks.{mask, masked, unmasked, WritesShown, mask-earlier, unwritten-earlier, seen-split, mask-stages, out-seen}
 
 module _ (t : List ℕ) (ps : List Packet) (f : Facts t ps) (n : Counted t ps) where
   abbrev c : ℕ
@@ -225,8 +207,8 @@ module _ (t : List ℕ) (ps : List Packet) (f : Facts t ps) (n : Counted t ps) w
 
   -- the pointers out of dead cells are what the oldest stage loses
   lost : (x : ℕ) → seen c (mask (λ i. not (live i)) (earlier (shown t) ps)) (suc x) ≡ pointersOut t dead (suc x)
-  unfolding seen unreached
-  lost x = total-same c (entries (mask (λ i. not (live i)) e) (suc x)) (λ i. cond (doomed i) (fieldsAt t (suc x) i) 0) at-index ∙ sym (out-select t c doomed (suc x))
+  unfolding unreached mask
+  lost x = seen-same c (mask (λ i. not (live i)) e) (mask doomed (wordAt t)) (suc x) at-index ∙ sym (out-seen t c doomed x)
     where
       e : View
       e = earlier (shown t) ps
@@ -234,12 +216,12 @@ module _ (t : List ℕ) (ps : List Packet) (f : Facts t ps) (n : Counted t ps) w
       untouched : (i k : ℕ) → live i ≡ false → e i k ≡ shown t i k
       untouched = unwritten-earlier c live (shown t) ps writes-live
 
-      at-index : (i : ℕ) → i < c → entries (mask (λ i. not (live i)) e) (suc x) i ≡ cond (doomed i) (fieldsAt t (suc x) i) 0
-      at-index = each-sort (λ i. i < c → entries (mask (λ i. not (live i)) e) (suc x) i ≡ cond (doomed i) (fieldsAt t (suc x) i) 0)
-          (λ i h _. unfold entries mask in rw (h, live-used i h) (omega (arith, nil-no-cell x)))
-          (λ i h d _. unfold entries mask fieldsAt in rw (h, d, untouched i left h, untouched i right h, shown-used t i left d, shown-used t i right d))
-          (λ i h d _. unfold entries mask in rw (h, d, untouched i left h, untouched i right h, shown-free t i left d, shown-free t i right d)
-          (omega (arith, nil-no-cell x)))
+      at-index : Same c (mask (λ i. not (live i)) e) (mask doomed (wordAt t))
+      at-index i k _ _ =
+          each-sort (λ j. cond (not (live j)) (e j k) 0 ≡ cond (doomed j) (wordAt t j k) 0)
+          (λ j h. rw (h, live-used j h))
+          (λ j h d. rw (h, d, untouched j k h, shown-used t j k d))
+          (λ j h d. rw (h, d, untouched j k h, shown-free t j k d)) i
 
   -- no lowering meets 0
   pub swept-enough : (i : ℕ) → i < c → pointersOut t dead (suc i) ≤ wordAt t i cellCount

@@ -137,11 +137,15 @@ kind-field n =
     either FieldOf (eqb n 1) _ _ tt (either FieldOf (eqb n 2) _ _ tt (either FieldOf (eqb n 3) _ _ (omega arith)
     (either FieldOf (eqb n 4) _ _ tt (either FieldOf (eqb n 5) _ _ tt (either FieldOf (eqb n 6) _ _ (omega arith) tt)))))
 
+pub first-of : (a : ℕ) (ws : List ℕ) → contains (a ∷ ws) a ≡ true
+unfolding contains
+first-of a ws = or-left (contains ws a) (eq-eqb a a refl)
+
 pub second-of : (a b : ℕ) (ws : List ℕ) → contains (a ∷ b ∷ ws) b ≡ true
 unfolding contains
 second-of a b ws = or-right (eqb a b) (or-left (contains ws b) (eq-eqb b b refl))
 
-third-of : (a b c : ℕ) → contains (a ∷ b ∷ c ∷ []) c ≡ true
+pub third-of : (a b c : ℕ) → contains (a ∷ b ∷ c ∷ []) c ≡ true
 unfolding contains
 third-of a b c = or-right (eqb a c) (or-right (eqb b c) (or-left false (eq-eqb c c refl)))
 

@@ -26,7 +26,9 @@ pub mod NameCounts
 pub mod Masks
 pub mod FreedCells
 pub mod StepSound
-pub mod ShortWay
+pub mod WhatWasReached
+pub mod SuspectCells
+pub mod LocalWay
 -- every call; nothing trimmed; the code's tests
 pub mod CallSound
 pub mod Untrimmed

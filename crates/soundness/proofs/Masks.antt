@@ -1,16 +1,19 @@
 -- A view with only some cells shown. Where packets wrote to cells that are shown, masking commutes with undoing.
-use mathlib.Core.Path.{_≡_, refl, sym, _∙_}
+use mathlib.Core.Path.{_≡_, refl, sym, ap₂, _∙_}
 use mathlib.Core.Logic.{⊎-elim}
 use mathlib.Core.Bool.{Bool, true, false, cond, not, _&&_}
 use mathlib.Core.List.{List, [], _∷_}
-use Prim.Native.Nat.{ℕ, suc, pred, _+_}
+use Prim.Native.Nat.{ℕ, zero, suc, pred, _+_}
 use native.Mathlib.Omega.{arith}
 use lib.Dec.{eqb}
 use borrow.Author.Tests.{eqb-true}
-use Rattle.machine.specs.Table.{left, right}
+use Rattle.machine.specs.Range.{total, select, matching}
+use Rattle.machine.specs.Table.{left, right, wordAt}
 use Rattle.machine.specs.Queue.{Packet}
 use Rattle.machine.specs.Packets.{Kind, reads, makes, replaces, raises, lowers, unknown, kindOf}
+use Rattle.machine.specs.Facts.{pointersOut}
 use Rattle.machine.proofs.Range.{tested, and-second, not-both, total-add, total-same}
+use Rattle.machine.proofs.Sweep.{out-append}
 use Rattle.soundness.proofs.Views.{nil-no-cell, View, putView, put-other, entries, seen, Same, put-views, undoneView, undoView, undo-same, HoldsOf, HoldsFor, holds-same, WrittenOf, Written, WrittenBelow, All, earlier, WithinView, within-same, StagesOf}
 
 unfoldable pub mask : (ℕ → Bool) → View → View
@@ -23,6 +26,17 @@ masked m v i k h = rw h
 pub unmasked : (m : ℕ → Bool) (v : View) (i k : ℕ) → m i ≡ true → mask m v i k ≡ v i k
 unfolding mask
 unmasked m v i k h = rw h
+
+-- the pointers out of the cells that pass a test are their entries, as fields stand in the table
+pub out-seen : (t : List ℕ) (c : ℕ) (m : ℕ → Bool) (x : ℕ) → pointersOut t (select c m) (suc x) ≡ seen c (mask m (wordAt t)) (suc x)
+unfolding select seen total entries mask pointersOut
+out-seen t zero m x = refl
+out-seen t (suc c) m x = out-append t (select c m) (cond (m c) (c ∷ []) []) (suc x) ∙ ap₂ _+_ (out-seen t c m x) (last (m c))
+  where
+    last : (b : Bool) → pointersOut t (cond b (c ∷ []) []) (suc x)
+        ≡ matching (cond b (wordAt t c left) 0) (suc x) 1 + matching (cond b (wordAt t c right) 0) (suc x) 1
+    last true = omega arith
+    last false = omega (arith, nil-no-cell x)
 
 -- the cells that packets wrote to are shown
 abbrev pub WritesShown : (ℕ → Bool) → Packet → Type 0

@@ -8,7 +8,6 @@ use native.Mathlib.Omega.{arith}
 use lib.Dec.{eqb}
 use lib.ListN.{length}
 use borrow.Author.Tests.{eqb-true, eqb-false, ltb-false}
-use Rattle.machine.specs.Range.{occurrences}
 use Rattle.machine.specs.Table.{stride, right, rootCount, cellCount, state, nameCount, capacity, firstFree, lastFree, tableLength, wordAt, inUse}
 use Rattle.machine.specs.Queue.{Packet}
 use Rattle.machine.specs.Packets.{Direction, plus, minus, changes, names, contains, isNamed, timesNamed}
@@ -16,7 +15,7 @@ use Rattle.machine.specs.Reached.{isRootByQueue, pointsTo}
 use Rattle.machine.specs.Step.{shifted, applyChanges, named, applyPacket}
 use Rattle.machine.proofs.Range.{tested}
 use Rattle.machine.proofs.Moves.{shifted-none}
-use Rattle.machine.proofs.Names.{named-length, named-capacity, named-first, named-last, named-word, named-field, named-root, named-use, named-count, occurs-contains, times-named, times-append}
+use Rattle.machine.proofs.Names.{named-length, named-capacity, named-first, named-last, named-word, named-field, named-root, named-use, named-count, none-contained, times-named, times-append}
 use Rattle.machine.proofs.RootsByCell.{Counted}
 use Rattle.soundness.proofs.PacketKinds.{unnamed-first, unnamed-last}
 use Rattle.soundness.proofs.Views.{shown, Same, all-map, earlier, earlier-same, seen, seen-same, stages-same}
@@ -25,10 +24,6 @@ use Rattle.soundness.proofs.Facts.{Facts, Live, all-below, free-unnamed
 use Rattle.soundness.proofs.FreeChain.{chain-same}
 use Rattle.soundness.proofs.ReachedCells.{points-by, points-cases, reached-grows}
 use Rattle.soundness.proofs.OldestPacket.{applied-capacity, applied-use, stands, applied-facts}
-
--- a list that does not have x has it nowhere
-pub none-contained : (x : ℕ) (ws : List ℕ) → contains ws x ≡ false → occurrences x ws ≡ 0
-none-contained x ws e = let z = ltb-false 0 (occurrences x ws) (occurs-contains x ws ∙ e) in omega arith
 
 pub none-named : (ps : List Packet) (x : ℕ) → isNamed ps x ≡ false → timesNamed ps x ≡ 0
 none-named ps x e = let z = ltb-false 0 (timesNamed ps x) (times-named ps x ∙ e) in omega arith

@@ -17,7 +17,7 @@ use Rattle.machine.specs.Calls.{RowCall, car, cdr, cons, setLeft, setRight, up,
 use Rattle.machine.specs.Step.{counterWord}
 use Rattle.machine.specs.Questions.{Question, ask, firstNo, heldEnough, slotEmpty, cellFree, heldWithin, pointersWithin, earlyRow, early, askFree, lateQueued, lateRow, late, questions}
 use Rattle.machine.specs.Audit.{Sound}
-use Rattle.machine.proofs.Range.{tested, not-both, lt-or-ge, or-left, or-right, matching-other}
+use Rattle.machine.proofs.Range.{tested, not-both, lt-or-ge, or-left, or-right, matching-other, same-tests}
 use Rattle.machine.proofs.Lists.{everyOf-at, everyOf-all}
 use Rattle.machine.proofs.Words.{cell-index, index-cell}
 use Rattle.machine.proofs.Questions.{Numbered, AllYes, firstNo-append, firstNo-none, firstNo-all, early-numbered}
@@ -26,7 +26,6 @@ use Rattle.soundness.proofs.CodeTests.{pointers-counted, first-free, held-most,
 use Rattle.soundness.proofs.RowQuestions.{held-test}
 use Rattle.soundness.proofs.RaisedCells.{Fits, question9, question10}
 use Rattle.calls.specs.Tests.{raisedWords, countWithin, raisedWithin, freeByEnd, codeLate, codeLateRow, codeQuestions}
-use Rattle.calls.proofs.LateLaws.{bool-same}
 use Rattle.calls.proofs.RowLaws.{code-nil}
 
 -- a word that a list of changes raises by something is among its raised words
@@ -91,7 +90,7 @@ free-same : (t : List ℕ) (q : Queue) → Sound t q → (r : RowCall) → freeB
 unfolding freeByEnd askFree packetOf kindOf
 free-same t q s (car x) = refl
 free-same t q s (cdr x) = refl
-free-same t q s (cons x y) = ap (λ (b : Bool). ask 8 b ∷ []) (bool-same (not (eqb (firstFree t) 0)) (cellFree t) there back)
+free-same t q s (cons x y) = ap (λ (b : Bool). ask 8 b ∷ []) (same-tests (not (eqb (firstFree t) 0)) (cellFree t) there back)
   where
     there : not (eqb (firstFree t) 0) ≡ true → cellFree t ≡ true
     there h = ⊎-elim (λ c. c) (λ c. absurd (eqb-false (firstFree t) 0 (not-true (eqb (firstFree t) 0) h) (first-free t q s .1 c))) (tested (cellFree t))
@@ -136,13 +135,13 @@ module _ (t : List ℕ) (q : Queue) (s : Sound t q) (a : Arrays q) (r : RowCall)
   nine y =
       let code = raised-is t q p root (unfold Within in held-most t q s) in
       let paper = question9 t q s r yes (held-test t (waiting q) p (y .0)) (y .1 .1) a (slot (y .1 .0)) in
-      bool-same (raisedWithin root t (waiting q) p) (heldWithin (written t r) (waiting (appended q p))) (λ h. paper .1 (code .0 h)) (λ h. code .1 (paper .0 h))
+      same-tests (raisedWithin root t (waiting q) p) (heldWithin (written t r) (waiting (appended q p))) (λ h. paper .1 (code .0 h)) (λ h. code .1 (paper .0 h))
 
   ten : AllYes before → raisedWithin cell t (waiting q) p ≡ pointersWithin (written t r)
   ten y =
       let code = raised-is t q p cell (unfold Within in λ i l. omega (arith, pointers-counted t q s i l, pointers-most t q s i l)) in
       let paper = question10 t q s r yes (held-test t (waiting q) p (y .0)) (y .1 .1) in
-      bool-same (raisedWithin cell t (waiting q) p) (pointersWithin (written t r)) (λ h. paper .1 (code .0 h)) (λ h. code .1 (paper .0 h))
+      same-tests (raisedWithin cell t (waiting q) p) (pointersWithin (written t r)) (λ h. paper .1 (code .0 h)) (λ h. code .1 (paper .0 h))
 
   late-same : firstNo (codeLate t q p) ≡ firstNo (lateQueued t q r)
   unfolding codeLate

@@ -26,7 +26,7 @@ use Rattle.machine.proofs.Ring.{waiting-taken}
 use Rattle.machine.proofs.Questions.{shape-is}
 use Rattle.machine.proofs.Kept.{machine-accepted, machine-refused}
 use Rattle.soundness.proofs.Untrimmed.{untrimmed}
-use Rattle.soundness.proofs.ShortWay.{nothing-freed}
+use Rattle.soundness.proofs.LocalWay.{local-way}
 use Rattle.collector.specs.declared.Stepped.{Stepped}
 use Rattle.counts.specs.Changes.{ChangesFit}
 use Rattle.collector.specs.Steps.{oldest, Premises, Steps}
@@ -62,7 +62,7 @@ premises t q s l =
     record {
       fit = stages-fit t (changes (oldest q)) (shape .table .room)
           (λ n k i m. unfold stage in omega (arith, untrimmed t q (oldest q) (waiting (taken q)) s first .passing n k i m));
-      still = nothing-freed t q (oldest q) (waiting (taken q)) s first;
+      local = local-way t q (oldest q) (waiting (taken q)) s first;
     }
 
 idle-is : (t : List ℕ) (q : Queue) (s : List ℕ) → q .count ≡ 0 → stepped (store t q s) ≡ outcome idle (store t q s)

@@ -1,6 +1,7 @@
+use mathlib.Core.Path.{sym, _∙_}
 use borrow.Author.Needs.{needs}
 use Rattle.queue.specs.Sums.{packetOf}
-use Rattle.collector.proofs.StepContract.{changed-room, still-shaped, still-enough, short, long}
+use Rattle.collector.proofs.Applied.{changed-room, still-shaped, still-enough, short, long}
 use Rattle.collector.proofs.apply_oldest.Statement.{statement}
 use Rattle.collector.proofs.apply_oldest.Tie as tie
 
@@ -52,12 +53,14 @@ returns c =
     let s = at-capacity-of .before .before .before .before in
     let i = s .args in
     short (i .table .now) (i .scratch .now) (s .pre .0) (s .pre .1) (packetOf (i .oldest)) _ (at-apply .apply .ensures)
-    _ (at-unname-packet .unname-packet .ensures) _ (at-watched-of .watched-of .ensures) _ (at-stays-root .stays-root .ensures) (at-if1 .if1 .taken)
+    _ (at-unname-packet .unname-packet .ensures) _ (at-watched-of .watched-of .ensures) (sym (at-stays-root .stays-root .ensures) ∙ at-if1 .if1 .taken)
     _ (at-capacity-of .capacity-of .ensures) _ (c .before .before .clear .ensures)
 
-collect-requires : tie.Need-collect-requires
-collect-requires c κs =
-    let at-unname-packet = c .before .before .before .before .before .before .before in
+collect-from-requires : tie.Need-collect-from-requires
+collect-from-requires c κs =
+    let at-if1 = c .before .before in
+    let at-stays-root = at-if1 .before in
+    let at-unname-packet = at-stays-root .before .before .before .before in
     let at-apply = at-unname-packet .before .before .before .before in
     let s = at-apply .before .before .before .before .before .before .before in
     let i = s .args in
@@ -65,6 +68,7 @@ collect-requires c κs =
     let g = at-unname-packet .unname-packet .ensures in (
       still-shaped (i .table .now) (i .scratch .now) (s .pre .0) (s .pre .1) (packetOf (i .oldest)) _ f _ g,
       still-enough (i .table .now) (i .scratch .now) (s .pre .0) (s .pre .1) (packetOf (i .oldest)) _ f _ g,
+      sym (at-stays-root .stays-root .ensures) ∙ at-if1 .if1 .left,
     )
 
 same-length-3 : tie.Need-same-length-3
@@ -75,17 +79,14 @@ same-length-4 c = search needs
 
 returns-2 : tie.Need-returns-2
 returns-2 c =
-    let at-collect = c .before .before .before .before in
-    let at-if1 = at-collect .before .before .before in
-    let at-stays-root = at-if1 .before in
-    let at-unname-packet = at-stays-root .before .before .before .before in
+    let at-collect-from = c .before .before .before .before in
+    let at-unname-packet = at-collect-from .before .before .before .before .before .before .before .before in
     let at-apply = at-unname-packet .before .before .before .before in
     let at-watched-of = at-apply .before .before in
     let s = at-watched-of .before .before .before .before .before in
     let i = s .args in
     long (i .table .now) (i .scratch .now) (s .pre .0) (s .pre .1) (packetOf (i .oldest)) _ (at-apply .apply .ensures)
-    _ (at-unname-packet .unname-packet .ensures) _ (at-watched-of .watched-of .ensures) _ (at-stays-root .stays-root .ensures) (at-if1 .if1 .left)
-    _ _ _ (at-collect .collect .ensures)
+    _ (at-unname-packet .unname-packet .ensures) _ (at-watched-of .watched-of .ensures) _ _ _ (at-collect-from .collect-from .ensures)
 
 pub apply-oldest-spec : {M : Type 1} → statement M
 apply-oldest-spec =
@@ -100,7 +101,7 @@ apply-oldest-spec =
     same-length
     same-length-2
     returns
-    collect-requires
+    collect-from-requires
     same-length-3
     same-length-4
     returns-2)

@@ -4,9 +4,9 @@ use Prim.Native.Nat.{ℕ, _-_, _≤_}
 use native.Mathlib.Omega.{arith}
 use lib.Dec.{eqb}
 use borrow.Author.Needs.{needs}
-use Rattle.machine.proofs.Range.{not-both}
+use Rattle.machine.proofs.Range.{not-both, refuted}
 use Rattle.audit_cells.specs.FreeChain.{freeCells}
-use Rattle.audit_cells.proofs.Tests.{refuted, passed, failed}
+use Rattle.audit_cells.proofs.Tests.{passed, failed}
 use Rattle.audit_cells.proofs.FreeChain.{walk-ends, Walked, walked-none, walked-more, free-cell, walk-next, walk-stops}
 use Rattle.audit_cells.proofs.chain.chain_walks.Statement.{statement}
 use Rattle.audit_cells.proofs.chain.chain_walks.Tie as tie

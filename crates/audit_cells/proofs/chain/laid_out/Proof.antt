@@ -5,7 +5,7 @@ use lib.Dec.{eqb}
 use borrow.Author.Needs.{needs}
 use Rattle.machine.specs.Table.{right, rootCount, cellCount, state}
 use Rattle.machine.proofs.Chain.{laid-wiped}
-use Rattle.audit_cells.proofs.Tests.{refuted}
+use Rattle.machine.proofs.Range.{refuted}
 use Rattle.audit_cells.proofs.FreeChain.{laid-last}
 use Rattle.audit_cells.proofs.chain.laid_out.Statement.{statement}
 use Rattle.audit_cells.proofs.chain.laid_out.Tie as tie

@@ -4,8 +4,8 @@ use native.Mathlib.Omega.{arith}
 use lib.Dec.{leb}
 use borrow.Author.Needs.{needs}
 use Rattle.machine.specs.Words.{ceiling}
+use Rattle.machine.proofs.Range.{refuted}
 use Rattle.audit_cells.proofs.Cells.{counts-facts, counts-last}
-use Rattle.audit_cells.proofs.Tests.{refuted}
 use Rattle.audit_cells.proofs.fields.counts_sound.Statement.{statement}
 use Rattle.audit_cells.proofs.fields.counts_sound.Tie as tie
 

@@ -1,9 +1,9 @@
 use mathlib.Core.Path.{sym}
 use Rattle.queue.specs.Sums.{packetOf}
-use Rattle.audit_cells.proofs.Tests.{refuted}
 use Rattle.audit_packets.proofs.LegalPackets.{zero-facts, zero-last}
 use Rattle.audit_packets.proofs.slots.is_zero.Statement.{statement}
 use Rattle.audit_packets.proofs.slots.is_zero.Tie as tie
+use Rattle.machine.proofs.Range.{refuted}
 
 returns : tie.Need-returns
 returns c = sym (refuted _ (λ h. c .if1 .taken (zero-facts _ h .0)))
