@@ -7,7 +7,7 @@ use Prim.Native.Nat.{ℕ, suc, _<_}
 use lib.Dec.{eqb}
 use borrow.Author.Tests.{eqb-true, not-true}
 use Rattle.machine.specs.Table.{capacity}
-use Rattle.machine.specs.Reached.{isRoot, ReachedBy, begun, onward}
+use Rattle.machine.specs.Reached.{isRoot, pointsTo, ReachedBy, begun, onward}
 use Rattle.machine.specs.ShortWay.{staysRoot}
 use Rattle.machine.specs.Suspects.{isLost, leadsOn, Suspect, isSuspect, isSupported, isKept, localDead}
 use Rattle.machine.proofs.Range.{tested, and-first, and-second, not-both}
@@ -19,6 +19,11 @@ module _ (t : List ℕ) (w : ℕ) where
   pub suspect-is : (i : ℕ) → (isSuspect t w i ≡ true) ↔ Suspect t w i
   unfolding isSuspect
   suspect-is i = (computed (capacity t) (isLost t w) (leadsOn t) i, λ r. computes (capacity t) (isLost t w) (leadsOn t) r)
+
+  pub suspect-no-root : {i : ℕ} → Suspect t w i → isRoot t i ≡ false
+  unfolding isLost leadsOn
+  suspect-no-root (begun {i = i} l e) = not-true (isRoot t i) (and-second (eqb w (suc i)) (not (isRoot t i)) e)
+  suspect-no-root (onward {j = j} {i = i} r l e) = not-true (isRoot t i) (and-second (pointsTo t j i) (not (isRoot t i)) e)
 
   pub kept-is : (i : ℕ) → (isKept t w i ≡ true) ↔ ReachedBy (capacity t) (isSupported t w) (leadsOn t) i
   unfolding isKept

@@ -7,7 +7,7 @@ use mathlib.Core.List.{List}
 use Prim.Native.Nat.{ℕ, suc, _+_, _≤_, _<_}
 use native.Mathlib.Omega.{arith}
 use lib.Dec.{ltb, eqb}
-use borrow.Author.Tests.{eqb-true, ltb-true, lt-ltb, not-true}
+use borrow.Author.Tests.{eqb-true, ltb-true, lt-ltb}
 use Rattle.machine.specs.Table.{right, rootCount, cellCount, capacity, wordAt, inUse}
 use Rattle.machine.specs.Queue.{Packet}
 use Rattle.machine.specs.Packets.{cell, plus, minus, isNamed}
@@ -19,7 +19,7 @@ use Rattle.machine.proofs.Range.{tested, or-false, and-both, and-first, and-sec
 use Rattle.machine.proofs.Reached.{reached-is}
 use Rattle.machine.proofs.RootsByCell.{Counted, root-is, by-queue}
 use Rattle.machine.proofs.Select.{select-same}
-use Rattle.machine.proofs.Suspects.{suspect-is, kept-is}
+use Rattle.machine.proofs.Suspects.{suspect-is, suspect-no-root, kept-is}
 use Rattle.soundness.proofs.PacketKinds.{unnamed-waiting}
 use Rattle.soundness.proofs.Views.{View, shown, seen, seen-same, seen-put, seen-none, seen-waiting, nil-no-cell, Same}
 use Rattle.soundness.proofs.LegalPackets.{Fit}
@@ -42,11 +42,6 @@ module _ (t : List ℕ) (ps : List Packet) (f : Facts t ps) (n : Counted t ps) (
   suspect-used (onward {j = j} {i = i} r l e) =
       let h = suspect-used r in (l, pointed-used t ps f j i (h .0) l (h .1) (and-first (pointsTo t j i) (not (isRoot t i)) e))
 
-  suspect-no-root : {i : ℕ} → Suspect t w i → isRoot t i ≡ false
-  unfolding isLost leadsOn
-  suspect-no-root (begun {i = i} l e) = not-true (isRoot t i) (and-second (eqb w (suc i)) (not (isRoot t i)) e)
-  suspect-no-root (onward {j = j} {i = i} r l e) = not-true (isRoot t i) (and-second (pointsTo t j i) (not (isRoot t i)) e)
-
   -- the pointers to a suspect: from suspects, and from the other cells
   abbrev others : View
   others = mask (λ i. not (isSuspect t w i)) (shown t)
@@ -65,7 +60,7 @@ module _ (t : List ℕ) (ps : List Packet) (f : Facts t ps) (n : Counted t ps) (
   unfolding isRootByQueue
   suspect-count {i} s =
       let l = suspect-used s .0 in
-      let unnamed = or-false (ltb 0 (wordAt t i rootCount)) (isNamed ps (suc i)) (sym (root-is t ps n i l) ∙ suspect-no-root s) .1 in
+      let unnamed = or-false (ltb 0 (wordAt t i rootCount)) (isNamed ps (suc i)) (sym (root-is t ps n i l) ∙ suspect-no-root t w s) .1 in
       omega (
         arith,
         f .counts i l,
@@ -93,9 +88,9 @@ module _ (t : List ℕ) (ps : List Packet) (f : Facts t ps) (n : Counted t ps) (
   -- so a suspect that is reached is kept
   reached-kept : {i : ℕ} → Reached t i → Suspect t w i → Kept i
   unfolding leadsOn
-  reached-kept (begun l e) s = absurd (not-both e (suspect-no-root s))
+  reached-kept (begun l e) s = absurd (not-both e (suspect-no-root t w s))
   reached-kept (onward {j = j} {i = i} r l e) s =
-      ⊎-elim (λ h. onward (reached-kept r (suspect-is t w j .0 h)) l (and-both e (rw (suspect-no-root s))))
+      ⊎-elim (λ h. onward (reached-kept r (suspect-is t w j .0 h)) l (and-both e (rw (suspect-no-root t w s))))
       (λ h. let d = reached-used t ps f (by-queue t ps n r) in begun l (supports j i (d .0) (d .1) h e s)) (tested (isSuspect t w j))
 
   module _ (cover : (i : ℕ) → i < c → inUse t i ≡ true → Reached t i ⊎ Suspect t w i) where

@@ -10,12 +10,13 @@ use lib.ListN.{length, getD, take}
 use lib.Seq.{getD-take, length-take-le}
 use Rattle.machine.specs.Table.{cellCount, capacity, wordAt}
 use Rattle.machine.specs.Packets.{contains}
-use Rattle.machine.specs.Reached.{reachedBy}
+use Rattle.machine.specs.Reached.{onward, reachedBy}
 use Rattle.machine.specs.Facts.{TableShape, pointersOut}
 use Rattle.machine.specs.ShortWay.{staysRoot}
 use Rattle.machine.specs.Suspects.{leadsOn, isSuspect, suspects, isSupported, isKept, localDead}
 use Rattle.machine.proofs.Range.{and-first}
 use Rattle.machine.proofs.Select.{select-same}
+use Rattle.machine.proofs.Suspects.{suspect-is, suspect-no-root}
 use Rattle.walks.specs.Walk.{mostWalked, Walked, Walks}
 use Rattle.suspects.specs.Dead.{mostSuspects, Finds}
 use Rattle.suspects.specs.Rest.{Listed, Rests}
@@ -24,7 +25,7 @@ use Rattle.suspects.proofs.Ascending.{ascending-select}
 use Rattle.suspects.proofs.Sums.{listed-out}
 use Rattle.suspects.proofs.Reaches.{reached-same}
 use Rattle.suspects.proofs.Supported.{supported-members}
-use Rattle.suspects.proofs.LostCell.{most-range, reached-suspect, suspect-no-root, suspect-onward}
+use Rattle.suspects.proofs.LostCell.{most-range, reached-suspect}
 
 map-at : (f : ℕ → ℕ) (xs : List ℕ) (k : ℕ) → k < length xs → getD (map f xs) k 0 ≡ f (getD xs k 0)
 map-at f [] k l = absurd (not-suc-le-zero l)
@@ -63,9 +64,9 @@ module _ (t : List ℕ) (w : ℕ) (lost : staysRoot t w ≡ false) where
       few = few;
       within = omega (arith, most-range c .1);
       below = h .below;
-      noRoots = λ i m. suspect-no-root t w lost i (sym (suspected i) ∙ m);
+      noRoots = λ i m. suspect-no-root t w (suspect-is t w i .0 (sym (suspected i) ∙ m));
       once = h .once;
-      onward = λ j i l m e. suspected i ∙ suspect-onward t w lost j i l (sym (suspected j) ∙ m) e;
+      onward = λ j i l m e. suspected i ∙ suspect-is t w i .1 (onward (suspect-is t w j .0 (sym (suspected j) ∙ m)) l e);
     }
 
     pub first-listed : (kept : List ℕ) (k : ℕ) → Keeps t list inner n kept k → Listed list n kept k

@@ -8,22 +8,22 @@ use native.Mathlib.Omega.{arith}
 use lib.Dec.{eqb, ltb}
 use lib.ListN.{set, replicate, length-set}
 use lib.Seq.{getD-set-same}
-use borrow.Author.Tests.{eqb-true, eq-eqb, ltb-true, not-true, not-false}
+use borrow.Author.Tests.{eqb-true, eq-eqb, ltb-true, not-false}
 use Rattle.machine.specs.Words.{isCell}
 use Rattle.machine.specs.Range.{matching, occurrences}
 use Rattle.machine.specs.Table.{capacity}
 use Rattle.machine.specs.Packets.{contains}
-use Rattle.machine.specs.Reached.{isRoot, pointsTo, reachedBy}
+use Rattle.machine.specs.Reached.{isRoot, reachedBy}
 use Rattle.machine.specs.Facts.{TableShape}
 use Rattle.machine.specs.ShortWay.{staysRoot}
 use Rattle.machine.specs.Suspects.{isLost, leadsOn, isSuspect}
-use Rattle.machine.proofs.Range.{tested, same-tests, or-false, and-both, and-first, and-second}
+use Rattle.machine.proofs.Range.{tested, same-tests, or-false, and-both, and-first}
 use Rattle.machine.proofs.Words.{cell-index, cell-number}
 use Rattle.machine.proofs.Lists.{at-most-one}
 use Rattle.walks.specs.Walk.{mostWalked, Starts}
 use Rattle.suspects.specs.Dead.{mostSuspects}
 use Rattle.suspects.proofs.Members.{contains-one}
-use Rattle.suspects.proofs.Reaches.{reached-within, reached-onward, reached-same}
+use Rattle.suspects.proofs.Reaches.{reached-same}
 
 -- there may be a suspect, and no more than a walk meets
 pub most-range : (c : ℕ) → (1 ≤ mostSuspects c) × (mostSuspects c ≤ mostWalked)
@@ -85,13 +85,3 @@ module _ (t : List ℕ) (w : ℕ) (lost : staysRoot t w ≡ false) where
   pub reached-suspect : (i : ℕ) → reachedBy c (contains ((w - 1) ∷ [])) (leadsOn t) i ≡ isSuspect t w i
   unfolding isSuspect
   reached-suspect = reached-same c (contains ((w - 1) ∷ [])) (isLost t w) (leadsOn t) (λ i _. only-lost i)
-
-  pub suspect-no-root : (i : ℕ) → isSuspect t w i ≡ true → isRoot t i ≡ false
-  unfolding isSuspect isLost leadsOn
-  suspect-no-root i m =
-      not-true (isRoot t i) (reached-within c (isLost t w) (leadsOn t) (λ j. not (isRoot t j)) (λ j _ h. and-second (eqb w (suc j)) (not (isRoot t j)) h)
-      (λ j k _ _ h. and-second (pointsTo t j k) (not (isRoot t k)) h) i m)
-
-  pub suspect-onward : (j i : ℕ) → i < c → isSuspect t w j ≡ true → leadsOn t j i ≡ true → isSuspect t w i ≡ true
-  unfolding isSuspect
-  suspect-onward = reached-onward c (isLost t w) (leadsOn t)
