@@ -1,13 +1,10 @@
 #!/bin/sh
 # The session program and the load program against the reference on the same inputs, all built for release, in one run: million lines or calls a second
-# and the ratio.
+# and the ratio. At the end calls of the store from C against the same calls inside a Rattle program.
 # Usage: bench/run.sh [PROGRAM...]: further programs that do the session program's job get a column each, in the order given.
+#        bench/run.sh --from-c: the calls from C alone.
 set -eu
 cd "$(dirname "$0")/.."
-rt check session >/dev/null
-rt check load >/dev/null
-cargo build --release --offline --quiet --manifest-path reference/Cargo.toml
-reference=${CARGO_TARGET_DIR:-reference/target}/release/reference
 work=$(mktemp -d)
 trap 'rm -rf "$work"' EXIT
 reference_session() { "$reference" session; }
@@ -162,7 +159,30 @@ measure_load() { # SEED C
     echo "$1 $2 65535" >"$work/in"
     compare "load, seed $1" "$2" 65535 50 target/bin/load reference_load
 }
+# Rounds of four calls from C and inside a Rattle program, so many that starting a program does not weigh. All calls must be done.
+measure_from_c() {
+    rt check up_and_step >/dev/null
+    rt staticlib c_store >"$work/said" 2>&1 || { tail -n 5 "$work/said" >&2; exit 1; }
+    cc -O2 -Iinclude -o "$work/from_c" bench/up_and_step.c target/staticlib/libc_store.a
+    calls=8000000
+    echo $((calls / 4)) >"$work/in"
+    row=$(compare "up, step, down, step" 64 "$calls" 1 "$work/from_c" target/bin/up_and_step)
+    [ "$(cat "$work/ours")" = "$calls" ] || { echo "calls were not done: $row" >&2; exit 1; }
+    echo "| rounds of | C | calls | from C, million calls/s | in Rattle, million calls/s | ratio | from C, ns a call | in Rattle, ns a call | difference |"
+    echo "|---|---|---|---|---|---|---|---|---|"
+    awk -v row="$row" -v n="$calls" '
+        $2 != "slow" && (!($1 in best) || $2 < best[$1]) { best[$1] = $2 }
+        END { printf "%s %.1f | %.1f | %.1f |\n", row, 1000 * best[1] / n, 1000 * best[2] / n, 1000 * (best[1] - best[2]) / n }' "$work/spent"
+}
+if [ "${1-}" = --from-c ]; then
+    measure_from_c
+    exit
+fi
 
+rt check session >/dev/null
+rt check load >/dev/null
+cargo build --release --offline --quiet --manifest-path reference/Cargo.toml
+reference=${CARGO_TARGET_DIR:-reference/target}/release/reference
 programs=
 heading="| input | C | lines | ours, million lines/s | reference, million lines/s | ratio |"
 rule="|---|---|---|---|---|---|"
@@ -250,3 +270,6 @@ measure_load 408858366 3
 measure_load 1775118300 64
 measure_load 1976993156 600
 measure_load 3877942671 4096
+
+echo
+measure_from_c

@@ -101,7 +101,11 @@ def crates():
     d.box("load", 260, 30, 220, 48, "text", ["load", "program: the load bench"])
     d.box("rules", 500, 30, 220, 48, "text", ["rules", "program: rule texts tried"])
     d.box("streams", 745, 110, 150, 52, "text", ["streams", "reads and writes"])
+    # for C
+    d.box("c_store", 635, 195, 165, 52, "face", ["c_store", "the twelve calls for C"])
+    d.box("c_layout", 820, 195, 130, 52, "code", ["c_layout", "queue, reply in C"])
     # tests
+    d.box("up_and_step", 915, 110, 120, 52, "test", ["up_and_step", "for measuring"])
     d.box("store_cases", 1055, 110, 160, 52, "test", ["store_cases", "program: twelve calls"])
     d.box("state_lines", 1055, 380, 160, 365, "test", ["state_lines", "reads the reference's", "lists, writes replies", "and stores"])
     d.box("reference", 785, 30, 275, 48, "plain", ["reference", "the same machine in Rust, from the papers"], dashed=True)
@@ -132,7 +136,12 @@ def crates():
     d.line([(210, 316), (194, 316), (194, 575), (208, 575)])
     d.down("store_cases", "state_lines")
     # store_cases stands on the store, too
-    d.line([(1055, 150), (975, 150), (975, 288)])
+    d.line([(1075, 162), (1075, 178), (975, 178), (975, 288)])
+    # so do up_and_step and c_store; c_layout knows the machine alone
+    d.line([(962, 162), (962, 288)])
+    d.line([(717, 247), (717, 288)])
+    d.line([(800, 221), (818, 221)])
+    d.line([(885, 247), (885, 268), (1040, 268), (1040, 778)])
     # rule text: the printer knows the table, the reader makes calls' conses, the scanner knows the notation alone
     d.down("writer", "printer")
     d.down("reader", "scanner")

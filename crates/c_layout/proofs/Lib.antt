@@ -1,0 +1,3 @@
+pub mod LengthLaws
+pub mod QueueLaws
+pub mod Faithful

@@ -1,0 +1,32 @@
+use borrow.Author.Needs.{needs}
+use Rattle.c_layout.proofs.row_told.Statement.{statement}
+use Rattle.c_layout.proofs.row_told.Tie as tie
+
+enum-known-answer : tie.Need-enum-known-answer
+enum-known-answer c = search needs
+
+tagged-requires : tie.Need-tagged-requires
+tagged-requires c κs = search needs
+
+enum-known-answer-2 : tie.Need-enum-known-answer-2
+enum-known-answer-2 c = search needs
+
+refused-requires : tie.Need-refused-requires
+refused-requires c κs = search needs
+
+returns : tie.Need-returns
+returns c = rw (c .before .before .answer .given .1, c .tagged .ensures)
+
+returns-2 : tie.Need-returns-2
+returns-2 c = rw (c .before .before .answer2 .given .1, c .refused .ensures)
+
+pub row-told-spec : {M : Type 1} → statement M
+row-told-spec =
+    tie.close
+    (tie.spec
+    enum-known-answer
+    tagged-requires
+    enum-known-answer-2
+    refused-requires
+    returns
+    returns-2)

@@ -1,0 +1,3 @@
+pub mod Queues
+pub mod Replies
+pub mod Faithful
