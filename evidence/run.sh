@@ -101,6 +101,7 @@ tell() { # LINE
         case $rest in
         'refused, as it must be '*) tell_refused "$name" "$seconds" ;;
         'NOT REFUSED'*) tell_accepted "$name" " ($seconds s): the crate is still proved with this edit" ;;
+        *'did not reach the prover'*) tell_accepted "$name" ", since it shows nothing: $rest $(head -n 1 "$copy/target/must-fail/$name/.log")" ;;
         *) tell_accepted "$name" ", since it shows nothing: $rest" ;;
         esac
         ;;
@@ -121,6 +122,7 @@ copy=$work/repository
 trap clean EXIT
 trap 'exit 129' HUP
 trap 'exit 130' INT
+trap 'exit 141' PIPE
 trap 'exit 143' TERM
 copy_repository || die "the repository could not be copied to $work"
 place_edits "${crates[@]}" || die "the edits could not be copied"
