@@ -70,7 +70,7 @@ def crates():
     d.box("cells", 385, 695, 220, 50, "code", ["cells", "header, fields, counts, state"])
     d.box("queue", 630, 695, 220, 50, "code", ["queue", "the ring; waiting changes"])
     d.box("counts", 630, 610, 220, 50, "code", ["counts", "counters moved; cells named"])
-    d.box("questions", 385, 610, 220, 50, "code", ["questions", "1 to 5 and 7: on every store"])
+    d.box("questions", 385, 610, 220, 50, "code", ["questions", "1 to 5, 7, 14: on every store"])
     # rule text
     d.box("writer", 210, 380, 155, 50, "code", ["writer", "1, 4, 6, then the text"])
     d.box("printer", 210, 455, 155, 50, "code", ["printer", "the text of a word"])
@@ -203,12 +203,12 @@ def call():
     d.box("serve", 240, 50, 190, 62, "text", ["session_lines", "one loop over the lines", "Feeds"])
     d.box("store", 460, 50, 190, 62, "face", ["store::row", "the public call", "Promise"])
     d.box("calls", 680, 50, 190, 62, "code", ["calls::row", "first asks, then writes", "RowCalled"])
-    d.box("early", 560, 160, 200, 62, "code", ["questions", "1, 4 and 7:", "shape, words, slots"])
-    d.box("late", 790, 160, 200, 62, "code", ["queue, cells", "6, 8, 9, 10: counts with", "their waiting changes"])
+    d.box("early", 560, 160, 200, 62, "code", ["questions", "1, 4, 14 and 7:", "shape, words, slots"])
+    d.box("late", 790, 160, 200, 62, "code", ["queue, cells", "6, 9, 10: counts with their", "waiting changes; 8: free end"])
     d.box("append", 560, 262, 200, 62, "code", ["calls", "one packet more:", "kind 2, (1, 0, 2)"])
     d.box("write", 790, 262, 200, 62, "code", ["cells, counts", "the new cell gets both", "operands; 1 and 2 are named"])
     d.box("put", 20, 262, 190, 62, "text", ["line_text::put_line", "3 OK 2", "outputLine"])
-    d.box("verdict", 240, 262, 190, 62, "text", ["session_lines", "row_verdict", "verdictOf"])
+    d.box("verdict", 240, 262, 190, 62, "text", ["serving::row_verdict", "a reply to a verdict", "verdictOf"])
     for a, b in [("parse", "serve"), ("serve", "store"), ("store", "calls"), ("early", "late"), ("append", "write")]:
         x, y, w, h = d.boxes[a]
         u = d.boxes[b][0]

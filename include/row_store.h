@@ -65,7 +65,7 @@ struct row_queue {
     uint16_t count;
 };
 
-/* What a call replies. The tag says what the other two words are; those that it does not use are 0. */
+/* What a call replies. The tag says what the other two numbers are; those that it does not use are 0. */
 struct row_reply {
     uint16_t tag;
     uint16_t number;
@@ -89,7 +89,7 @@ enum row_refusal {
     ROW_SCRATCH_TOO_SHORT = 2,    /* fewer than C words */
     ROW_NUMBER_OUT_OF_RANGE = 3,  /* C is 1 to 4,096, n is 1 to 4,095 */
     ROW_ILLEGAL_WORD = 4,         /* an operand is not nil, a cell of this table or an atom */
-    ROW_NOT_A_CELL = 5,           /* x is nil or an atom */
+    ROW_NOT_A_CELL = 5,           /* x is an atom, or nil where the call is no read */
     ROW_NOT_HELD = 6,             /* a cell is held less often than the call names it */
     ROW_QUEUE_FULL = 7,           /* no slot is empty, or fewer than the text has pairs: step */
     ROW_NO_FREE_CELL = 8,         /* or fewer than the text has pairs: give up holds, step until idle */
@@ -146,8 +146,8 @@ ROW_LAYOUT(offsetof(struct row_reply, count) == 8);
  * A hold is a row program's right to use a cell, counted from calls and replies alone; a cell with a hold is held.
  * Nil and atoms have no holds: where an operand or a reply is one, question 6 asks nothing of it and no hold moves.
  *
- * A row call writes fields and queues a packet; the counts follow when a step takes the packet. Nobody steps for you:
- * after 64 accepted row calls without a step the queue is full.
+ * A row call writes fields and queues a packet; the counts follow when a step takes the packet. A read of nil queues
+ * none, a text read one for each of its pairs. Nobody steps for you: with 64 packets waiting the queue is full.
  */
 #ifdef __cplusplus
 extern "C" {
@@ -246,9 +246,9 @@ struct row_reply row_read_text(uint16_t *table, size_t table_words, struct row_q
 
 /*
  * write a word: puts the text of the tree that a word opens out into at the front of the buffer, and no 0 behind it.
- * Asks: 1, 4 (the word is legal), 6 (a cell is held once), then 12 (at most 32 brackets are open together) or 13 (the
- *       text fits the buffer), by which is met first as the text goes into the buffer byte by byte; 12 where both meet
- *       at one bracket.
+ * Asks: 1, 4 (the word is legal), 6 (a cell is held at least once), then 12 (at most 32 brackets are open together) or
+ *       13 (the text fits the buffer), by which is met first as the text goes into the buffer byte by byte; 12 where
+ *       both meet at one bracket.
  * Reply: ROW_TEXT with the text's bytes. A text of n pairs has at most 5 + 10 * n; a ring is refused.
  * Writes: nothing in the store, and nothing is queued. The buffer's bytes past the text stand.
  * Holds: none moved.
