@@ -194,7 +194,7 @@ def citations(document):
 NAME = r"[A-Za-z][\w′-]*"
 # Words of the language, of a session, of a proof's script and of tools, which name nothing of the repository.
 WORDS = set("""OK NO BAD IDLE _ a b c r s s′ t1 t2 cc rw if use const static return requires ensures unfoldable omega simp search proved setl setr
-loop-again loop-holds loop-less returns returns-2 memcpy memset size_t u16 rt stdout check row_ rattle-kit-5b B C U""".split())
+loop-again loop-holds loop-less returns returns-2 memcpy memset size_t u16 rt stdout check row_ rattle-kit-5b-plain B C U""".split())
 EXAMPLES = {"File.name", "p.b", "p.c", "Lts.antt", "reply.queue"}
 FILE = re.compile(r"[\w./-]+\.(?:rt|c|h|sh|py|md|txt|list|inputs|outputs|sums|session|edit|rs|awk|svg)")
 
