@@ -3,6 +3,7 @@ use mathlib.Core.Path.{_≡_, refl, sym, ap, _∙_}
 use mathlib.Core.Logic.{⊎-elim}
 use mathlib.Core.Bool.{true, false, cond}
 use mathlib.Core.List.{List}
+use mathlib.Core.Option.{some, Option·some-injective}
 use Prim.Native.Nat.{ℕ, zero, suc, _+_, _*_, _/_, _%_, _<_, _≤_}
 use native.Mathlib.Omega.{arith}
 use lib.Dec.{eqb, ltb}
@@ -16,29 +17,20 @@ use Rattle.machine.specs.Calls.{value, refused, idle, applied, sound, broken, t
 use Rattle.machine.proofs.Range.{tested}
 use Rattle.c_layout.specs.declared.Reply.{Reply}
 use Rattle.c_layout.specs.Queues.{arrayAt, arrayIn, placeAt, countAt, queueWords, queueIn}
-use Rattle.c_layout.specs.Replies.{told}
+use Rattle.c_layout.specs.Replies.{told, said}
 use Rattle.c_layout.specs.Faithful.{lengthOnly, Faithful}
 
-readBack : Reply → machine.Reply
-readBack r =
-    cond (eqb (r .tag) 1) (value (r .number))
-    (cond (eqb (r .tag) 2) (refused (r .number))
-    (cond (eqb (r .tag) 3) idle
-    (cond (eqb (r .tag) 4) (applied (r .number) (r .count))
-    (cond (eqb (r .tag) 5) sound (cond (eqb (r .tag) 6) (broken (r .number)) (text (replicate (r .count) 0)))))))
-
-read-told : (r : machine.Reply) → readBack (told r) ≡ lengthOnly r
-unfolding readBack
-read-told (value w) = refl
-read-told (refused n) = refl
-read-told idle = refl
-read-told (applied k n) = refl
-read-told sound = refl
-read-told (broken n) = refl
-read-told (text bytes) = refl
+back : (r : machine.Reply) → said (told r) ≡ some (lengthOnly r)
+back (value w) = refl
+back (refused n) = refl
+back idle = refl
+back (applied k n) = refl
+back sound = refl
+back (broken n) = refl
+back (text bytes) = refl
 
 same-reply : (r r′ : machine.Reply) → told r ≡ told r′ → lengthOnly r ≡ lengthOnly r′
-same-reply r r′ e = sym (read-told r) ∙ ap readBack e ∙ read-told r′
+same-reply r r′ e = Option·some-injective (lengthOnly r) (lengthOnly r′) (sym (back r) ∙ ap said e ∙ back r′)
 
 word-read : (k i : ℕ) (w : List ℕ) → i < slots → getD w (arrayAt k + i) 0 ≡ getD (arrayIn k w) i 0
 word-read k i w h = sym (getD-take slots (drop (arrayAt k) w) i 0 h ∙ getD-drop (arrayAt k) w i 0)
@@ -75,6 +67,7 @@ module _ (u v : List ℕ) (e : queueIn u ≡ queueIn v) where
 
 pub faithful : Faithful
 faithful = record {
+  back = back;
   replies = same-reply;
   words = λ u v lu lv e. ext-getD 0 u v (lu ∙ sym lv) (λ i h. same-word u v e i (omega arith));
 }
