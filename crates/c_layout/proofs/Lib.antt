@@ -1,3 +1,4 @@
 pub mod LengthLaws
 pub mod QueueLaws
 pub mod Faithful
+pub mod Cases

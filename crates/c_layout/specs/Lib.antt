@@ -1,3 +1,4 @@
 pub mod Queues
 pub mod Replies
 pub mod Faithful
+pub mod Cases
