@@ -46,6 +46,52 @@ expect_failures() { # INPUT
     expect 'input closed' nothing reading
 }
 
+# The output is a file that may grow to one block, so that a write is short and the next one fails. How long a block is, is seen on head.
+within_a_block() { # PROGRAM...
+    # shellcheck disable=SC3045,SC3047 # where sh has no such limit or signal, the tests fail
+    (trap '' XFSZ && ulimit -f 1 && exec "$@")
+}
+within_a_block head -c 100000 /dev/zero >block 2>notes
+front() { # FILE
+    head -c "$(wc -c <block)" "$1"
+}
+# The block is to end within what the program writes last: after a further write the failure would be told of that one.
+expect_short_write() { # INPUT OUTPUT
+    front "$2" >begun
+    within_a_block "$program" <"$1" >out 2>err
+    expect 'a write that is short' begun writing
+}
+# The same, of a program that answers each line, on the lines up to the one within whose answer the block ends.
+expect_short_answer() { # INPUT OUTPUT
+    lines=$(($(front "$2" | wc -l) + 1))
+    head -n "$lines" "$1" >few
+    expect_short_write few "$2"
+}
+
+# A line without its line feed is answered at the end of the input, and there is no room for that.
+expect_last_line_told() { # LINE
+    printf '%s' "$1" | "$program" >/dev/full 2>err
+    : >out
+    expect 'no room for what a last line without its line feed gives' nothing writing
+}
+
+# The input stays open until the reply is there, but no longer than five seconds.
+expect_reply_at_once() { # LINE REPLY
+    echo "$2" >reply
+    : >out
+    # shellcheck disable=SC2094
+    {
+        echo "$1"
+        for _ in 1 2 3 4 5 6 7 8 9 10; do
+            cmp -s out reply && break
+            sleep 0.5
+        done
+        cp out early
+    } | "$program" >out 2>err
+    mv early out
+    expect 'a reply while the input is still open' reply nothing
+}
+
 # Input from a pipe with these bytes that stays open for two seconds: after them a read that does not wait fails.
 run_till_failure() { # BYTES
     mkfifo pipe

@@ -1,7 +1,7 @@
 #!/bin/sh
 # What `rt` cannot try of the load program, which it runs on one input, a regular file: all inputs of the reference, input that comes in short reads or
-# is long, the memory that is used, reads and writes that fail, and the session program on the same calls. A line for each test, and at the end
-# 'N passed, M failed'. `rt check load` and `rt check session` build the programs; others can be given: tests/load.sh [LOAD [SESSION]].
+# is long, the memory that is used, reads and writes that fail, a write that is short, and the session program on the same calls. A line for each test, and
+# at the end 'N passed, M failed'. `rt check load` and `rt check session` build the programs; others can be given: tests/load.sh [LOAD [SESSION]].
 name=load
 # shellcheck source=tests/common.sh
 . "$(dirname "$0")/common.sh"
@@ -102,6 +102,9 @@ expect 'the limit on memory holds' nothing nothing
 
 echo '7 64 65535' >long
 expect_failures long
+
+expect_short_write "$stored/stdin" "$stored/stdout"
+expect_last_line_told '7 64 1000'
 
 # The line that was read in whole is not answered.
 run_till_failure '7 64 1000\n'

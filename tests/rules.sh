@@ -1,6 +1,7 @@
 #!/bin/sh
-# What `rt` cannot try of the rules program, whose standard input is a regular file there: input that comes in short reads, and reads and writes that
-# fail. A line for each test, and at the end 'N passed, M failed'. `rt check rules` builds the program; another can be given as an argument.
+# What `rt` cannot try of the rules program, whose standard input is a regular file there: input that comes in short reads or stays open, reads and writes
+# that fail, and a write that is short. A line for each test, and at the end 'N passed, M failed'. `rt check rules` builds the program; another can be given as
+# an argument.
 name=rules
 # shellcheck source=tests/common.sh
 . "$(dirname "$0")/common.sh"
@@ -41,6 +42,10 @@ expect 'the longest text' answered nothing
 # Input whose answers take more than one write.
 yes '(1 2 . 3)' | head -n 20000 >many
 expect_failures many
+
+expect_short_answer "$stored/stdin" "$stored/stdout"
+expect_last_line_told '(1 2)'
+expect_reply_at_once '(1 . (2 . 3))' '(1 2 . 3)'
 
 # The half line has no answer.
 run_till_failure '(1 2)\n(3'

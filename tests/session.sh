@@ -1,7 +1,7 @@
 #!/bin/sh
-# What `rt` does not try of the session program, whose standard input is one regular file there: input that comes in short reads, reads and writes
-# that fail, and a further session. A line for each test, and at the end 'N passed, M failed'. `rt check session` builds the program; another can be given as an
-# argument.
+# What `rt` does not try of the session program, whose standard input is one regular file there: input that comes in short reads or stays open, reads and
+# writes that fail, a write that is short, and a further session. A line for each test, and at the end 'N passed, M failed'. `rt check session` builds the
+# program; another can be given as an argument.
 name=session
 # shellcheck source=tests/common.sh
 . "$(dirname "$0")/common.sh"
@@ -20,6 +20,10 @@ pieces <"$stored/stdin" | "$program" >out 2>err
 expect 'input in short reads' "$stored/stdout" nothing
 
 expect_failures "$stored/stdin"
+
+expect_short_answer "$stored/stdin" "$stored/stdout"
+expect_last_line_told 'fresh 3'
+expect_reply_at_once 'fresh 3' '1 OK 0'
 
 # The half line has no answer.
 run_till_failure 'fresh 3\nste'
