@@ -1,5 +1,6 @@
 -- Lines one after the other, and the end of the input.
 use mathlib.Core.Path.{_≡_, refl, sym, ap, _∙_}
+use mathlib.Core.Bool.{true, false, true≢false, false≢true}
 use mathlib.Core.List.{List, [], _∷_, _++_, append-assoc}
 use Prim.Native.Nat.{ℕ, zero, suc, _+_, _-_, _≤_, _<_}
 use native.Mathlib.Omega.{arith}
@@ -14,7 +15,7 @@ use Rattle.machine.specs.declared.Queue.{Queue}
 use Rattle.rule_lines.specs.Answers.{answerLine, answers, room}
 use Rattle.rule_lines.specs.Stores.{AnswersHeld}
 use Rattle.rule_lines.specs.Kept.{Keeps}
-use Rattle.rule_lines.specs.Progress.{State, state, rulesOf, begunLine, ahead, Tells, Feeds, Finishes}
+use Rattle.rule_lines.specs.Progress.{State, state, rulesOf, begunLine, ahead, Tells, Feeds, Finishes, FinishesWithRoom}
 use Rattle.rule_lines.proofs.TellsLaws.{joined-tells, ended-ahead, tells-both}
 
 -- How far the lines have come: the sizes stand, and what was taken gave what was written.
@@ -113,3 +114,11 @@ finish-line s {out} {out′ = out′} {end = end} some fits a = record {
       ∙ ap answerLine (sym (append-none (begunLine s)))
       ∙ sym (put .front);
 }
+
+-- all is written
+pub no-more : {s : State} {out : List ℕ} {written : ℕ} {s′ : State} {out′ : List ℕ} → Finishes s written out′ → FinishesWithRoom s out written false s′ out′
+no-more f = record { over = λ r. refl; finishes = λ e. f; unchanged = λ e. absurd (false≢true e) }
+
+-- no room for the last answer
+pub more-waits : {s : State} {out : List ℕ} → length out < room → FinishesWithRoom s out 0 true s out
+more-waits l = record { over = λ r. absurd (omega arith); finishes = λ e. absurd (true≢false e); unchanged = λ e. (refl, refl, refl) }

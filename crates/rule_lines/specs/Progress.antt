@@ -1,5 +1,6 @@
 -- How far the rules have come: what is still to be written follows from the bytes of the present line and the input to come.
 use mathlib.Core.Path.{_≡_}
+use mathlib.Core.Bool.{Bool, true, false}
 use mathlib.Core.List.{List, [], _++_}
 use Prim.Native.Nat.{ℕ, _+_, _≤_, _<_}
 use lib.ListN.{length, take}
@@ -53,6 +54,12 @@ pub record Feeds (s : State) (input : List ℕ) (s′ : State) (taken written : 
 pub record Finishes (s : State) (written : ℕ) (out : List ℕ) : Type 0 where
   pub within : written ≤ length out
   pub listing : CleanState s → ahead s [] ≡ take written out
+
+-- Any buffer may be lent for that: with room for an answer there is no more to write. While there is more, nothing is written and nothing has changed.
+pub record FinishesWithRoom (s : State) (out : List ℕ) (written : ℕ) (more : Bool) (s′ : State) (out′ : List ℕ) : Type 0 where
+  pub over : room ≤ length out → more ≡ false
+  pub finishes : more ≡ false → Finishes s written out′
+  pub unchanged : more ≡ true → (written ≡ 0) × (s′ ≡ s) × (out′ ≡ out)
 
 -- a table long enough, and scratch enough: clean before any input
 pub record Starts (t t′ : List ℕ) (r : Rules) : Type 0 where

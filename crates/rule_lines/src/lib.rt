@@ -10,10 +10,7 @@ use line::ROOM;
 use line::answer_held;
 use machine::Queue;
 ghost use mathlib.Core.Path.{_≡_};
-ghost use Prim.Native.Nat.{_≤_};
-ghost use lib.ListN.{length};
-ghost use Rattle.rule_lines.specs.Answers.{room};
-ghost use Rattle.rule_lines.specs.Progress.{state, rulesOf, Starts, Feeds, Finishes};
+ghost use Rattle.rule_lines.specs.Progress.{state, rulesOf, Starts, Feeds, FinishesWithRoom};
 
 // The bytes to lend for a line.
 pub const LINE_BYTES: usize = kept::KEPT_BYTES;
@@ -98,22 +95,40 @@ pub fn feed(
     carried(held, queue, input.len(), written)
 }
 
-// At the end of the input a last line without its line feed is answered. The result is how much was written.
+// After the end of the input: how much was written, and whether there is more.
+pub struct Written {
+    pub written: usize,
+    pub more: bool,
+}
+
+// At the end of the input a last line without its line feed is answered. Where the buffer has no room for its answer nothing is done, and there is more.
 pub fn finish(
     rules: Rules,
     table: &mut [u16],
     scratch: &mut [u16],
     line: &mut [u8],
     out: &mut [u8],
-) -> usize
-    requires { ⌜ room ≤ length (now out) ⌝ }
-    ensures { λ r. ⌜ Finishes (state rules (now (table .entry)) (now (scratch .entry)) (now (line .entry))) r (now (out .exit)) ⌝ }
+) -> Written
+    ensures { λ r. ⌜ FinishesWithRoom (state rules (now (table .entry)) (now (scratch .entry)) (now (line .entry))) (now (out .entry))
+        (r .written) (r .more) (state rules (now (table .exit)) (now (scratch .exit)) (now (line .exit))) (now (out .exit)) ⌝ }
 {
     let held = rules.held;
     if held == 0 {
-        return 0;
+        return Written {
+            written: 0,
+            more: false,
+        };
+    }
+    if out.len() < ROOM {
+        return Written {
+            written: 0,
+            more: true,
+        };
     }
     let queue = rules.queue;
     let answered = answer_held(table, queue, scratch, line, held, b"", out, 0);
-    answered.end
+    Written {
+        written: answered.end,
+        more: false,
+    }
 }

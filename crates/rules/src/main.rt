@@ -123,7 +123,8 @@ fn conclude(
         Outcome::More => Outcome::More,
         Outcome::Failed => Outcome::Failed,
         Outcome::End => {
-            let end = rule_lines::finish(rules, table, scratch, line, out);
+            let finished = rule_lines::finish(rules, table, scratch, line, out);
+            let end = finished.written;
             if put(&out[..end]) {
                 Outcome::End
             } else {

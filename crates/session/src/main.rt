@@ -116,7 +116,8 @@ fn conclude(
         Outcome::More => Outcome::More,
         Outcome::Failed => Outcome::Failed,
         Outcome::End => {
-            let end = session_lines::finish(session, table, scratch, out);
+            let finished = session_lines::finish(session, table, scratch, out);
+            let end = finished.written;
             if put(&out[..end]) {
                 Outcome::End
             } else {

@@ -1,5 +1,6 @@
 -- Lines one after the other, and the end of the input.
 use mathlib.Core.Path.{_≡_, refl, sym, ap, _∙_}
+use mathlib.Core.Bool.{true, false, true≢false, false≢true}
 use mathlib.Core.List.{List, [], _∷_, _++_}
 use Prim.Native.Nat.{ℕ, zero, suc, _+_, _-_, _≤_, _<_, min}
 use native.Mathlib.Omega.{arith}
@@ -24,7 +25,7 @@ use Rattle.session_lines.specs.declared.Session.{Session}
 use Rattle.session_lines.specs.Listing.{listed}
 use Rattle.serving.specs.Serving.{Good}
 use Rattle.serving.proofs.ServeLaws.{Serves}
-use Rattle.session_lines.specs.Progress.{sessionOf, begunLine, ahead, Tells, FeedsLines, Finishes}
+use Rattle.session_lines.specs.Progress.{sessionOf, begunLine, ahead, Tells, FeedsLines, Finishes, FinishesWithRoom}
 use Rattle.session_lines.proofs.TellsLaws.{line-tells, joined-tells, ended-tells, tells-both}
 
 -- How far the lines have come: the sizes stand, the number is shown, and what was taken gave what was written.
@@ -168,3 +169,12 @@ module _ (s : Session) {held : ℕ} (size : length (s .line) ≡ keptBytes) (cap
         ∙ ap (λ (x : List ℕ). take written out ++ x) closed
         ∙ append-none (take written out);
   }
+
+-- all is written
+pub no-more : {s : Session} {t scratch out : List ℕ} {written : ℕ} {t′ scratch′ out′ : List ℕ} → Finishes s t scratch written out′
+    → FinishesWithRoom s t scratch out written false t′ scratch′ out′
+no-more f = record { over = λ r. refl; finishes = λ e. f; unchanged = λ e. absurd (false≢true e) }
+
+-- no room for the last line
+pub more-waits : {s : Session} {t scratch out : List ℕ} → length out < room → FinishesWithRoom s t scratch out 0 true t scratch out
+more-waits l = record { over = λ r. absurd (omega arith); finishes = λ e. absurd (true≢false e); unchanged = λ e. (refl, refl, refl, refl) }

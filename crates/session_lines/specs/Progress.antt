@@ -1,5 +1,6 @@
 -- How far a session has come: what is still to be written follows from its state and the input to come.
 use mathlib.Core.Path.{_≡_}
+use mathlib.Core.Bool.{Bool, true, false}
 use mathlib.Core.List.{List, [], _∷_, _++_}
 use Prim.Native.Nat.{ℕ, _+_, _^_, _≤_, _<_}
 use lib.ListN.{length, take, replicate}
@@ -58,3 +59,9 @@ pub record FeedsLines (s : Session) (t scratch input : List ℕ) (s′ : Session
 pub record Finishes (s : Session) (t scratch : List ℕ) (written : ℕ) (out : List ℕ) : Type 0 where
   pub within : written ≤ length out
   pub listing : Good t (s .queue) → s .lines + 1 < 2 ^ 64 → ahead s t scratch [] ≡ take written out
+
+-- Any buffer may be lent for that: with room for an output line there is no more to write. While there is more, nothing is written and nothing has changed.
+pub record FinishesWithRoom (s : Session) (t scratch out : List ℕ) (written : ℕ) (more : Bool) (t′ scratch′ out′ : List ℕ) : Type 0 where
+  pub over : room ≤ length out → more ≡ false
+  pub finishes : more ≡ false → Finishes s t scratch written out′
+  pub unchanged : more ≡ true → (written ≡ 0) × (t′ ≡ t) × (scratch′ ≡ scratch) × (out′ ≡ out)

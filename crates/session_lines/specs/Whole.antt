@@ -55,7 +55,7 @@ outputs ps = joined written ps
 abbrev pub begin : State
 begin = record { session = started; table = replicate (tableLength mostCells) 0; scratch = replicate (scratchWords mostCells) 0 }
 
--- any input of fewer than 2^64 - 1 bytes, in parts of any size
+-- any input of fewer than 2^64 - 1 bytes, in parts of any size, and a call of `finish` after which there is no more to write
 abbrev pub Whole : Type 0
 Whole = (parts : List Part) (written : ℕ) (buffer : List ℕ)
     → Fed begin parts

@@ -3,13 +3,11 @@ mod lines;
 
 use line_text::kept::KEPT_BYTES;
 use line_text::kept::capped;
+use line_text::texts::ROOM;
 use lines::serve_lines;
 use machine::Queue;
 ghost use mathlib.Core.Path.{_≡_};
-ghost use Prim.Native.Nat.{_≤_};
-ghost use lib.ListN.{length};
-ghost use Rattle.line_text.specs.Texts.{room};
-ghost use Rattle.session_lines.specs.Progress.{started, Feeds, Finishes};
+ghost use Rattle.session_lines.specs.Progress.{started, Feeds, FinishesWithRoom};
 
 // What is carried from one part of the input to the next: the first bytes of the present line, the number of lines before it, and the queue.
 pub struct Session {
@@ -53,15 +51,33 @@ pub fn feed(
     serve_lines(session, table, scratch, input, out)
 }
 
-// At the end of the input a last line without its line feed is served. The answer is how much was written.
-pub fn finish(session: Session, table: &mut [u16], scratch: &mut [u16], out: &mut [u8]) -> usize
-    requires { ⌜ room ≤ length (now out) ⌝ }
-    ensures { λ r. ⌜ Finishes session (now (table .entry)) (now (scratch .entry)) r (now (out .exit)) ⌝ }
+// After the end of the input: how much was written, and whether there is more.
+pub struct Written {
+    pub written: usize,
+    pub more: bool,
+}
+
+// At the end of the input a last line without its line feed is served. Where the buffer has no room for its output line nothing is done, and there is more.
+pub fn finish(session: Session, table: &mut [u16], scratch: &mut [u16], out: &mut [u8]) -> Written
+    ensures { λ r. ⌜ FinishesWithRoom session (now (table .entry)) (now (scratch .entry)) (now (out .entry))
+        (r .written) (r .more) (now (table .exit)) (now (scratch .exit)) (now (out .exit)) ⌝ }
 {
     let held = capped(session.held);
     if held == 0 {
-        return 0;
+        return Written {
+            written: 0,
+            more: false,
+        };
+    }
+    if out.len() < ROOM {
+        return Written {
+            written: 0,
+            more: true,
+        };
     }
     let fed = serve_lines(session, table, scratch, b"\n", out);
-    fed.written
+    Written {
+        written: fed.written,
+        more: false,
+    }
 }
