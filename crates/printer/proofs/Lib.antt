@@ -4,4 +4,4 @@ pub mod StepLaws
 pub mod PieceLaws
 pub mod WrittenLaws
 pub mod PassLaws
-pub mod IntoLaws
+pub mod FrontLaws

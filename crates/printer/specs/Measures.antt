@@ -1,8 +1,8 @@
 -- What measuring a text gives: its bytes where it fits, else what is met first.
 use mathlib.Core.Path.{_≡_}
 use mathlib.Core.Bool.{cond}
-use mathlib.Core.List.{List, [], _++_}
-use Prim.Native.Nat.{ℕ, _<_}
+use mathlib.Core.List.{List, _++_}
+use Prim.Native.Nat.{ℕ}
 use lib.Dec.{eqb}
 use lib.ListN.{length, drop}
 use Rattle.notation.specs.Brackets.{firstMet}
@@ -31,9 +31,3 @@ front Measured.NoRoom text old = old
 pub record PutText (t : List ℕ) (w : ℕ) (old new : List ℕ) (answer : Measured) : Type 0 where
   pub exact : answer ≡ measured (length old) (textFor (length old) t w)
   pub put : new ≡ front answer (textFor (length old) t w) old
-
--- the part that is handed back of a buffer with so much room: the text where it fits, else empty, which no text is
-pub record Into (room : ℕ) (t : List ℕ) (w : ℕ) (part : List ℕ) : Type 0 where
-  pub fits : firstMet room 0 (textFor room t w) ≡ 0 → part ≡ textFor room t w
-  pub not : (firstMet room 0 (textFor room t w) ≡ 0 → ⊥) → part ≡ []
-  pub some : 0 < length (textFor room t w)

@@ -13,7 +13,7 @@ ghost use Prim.Native.Nat.{_≤_};
 ghost use lib.ListN.{length};
 ghost use Rattle.machine.specs.Table.{capacity, tableLength};
 ghost use Rattle.machine.specs.Texts.{textFor};
-ghost use Rattle.printer.specs.Measures.{measured, Exact, PutText, Into};
+ghost use Rattle.printer.specs.Measures.{measured, Exact, PutText};
 
 // How many bytes a text has, or what is met first where it does not fit: a bracket too many, or a byte without room.
 pub enum Measured {
@@ -80,18 +80,5 @@ pub fn put_text(table: &[u16], word: u16, buffer: &mut [u8]) -> Measured
         }
         Measured::TooDeep => Measured::TooDeep,
         Measured::NoRoom => Measured::NoRoom,
-    }
-}
-
-// The same, and the part of the buffer that holds the text is handed back: an empty one where it does not fit.
-pub fn text_into<'b>(table: &[u16], word: u16, buffer: &'b mut [u8]) -> &'b mut [u8]
-    requires { ⌜ tableLength (capacity (now table)) ≤ length (now table) ⌝ }
-    ensures { λ r. ⌜ Into (length (now (buffer .entry))) (now (table .entry)) word (now r) ⌝ }
-{
-    let measured = put_text(table, word, buffer);
-    match measured {
-        Measured::Bytes(n) => &mut buffer[..n],
-        Measured::TooDeep => &mut buffer[..0],
-        Measured::NoRoom => &mut buffer[..0],
     }
 }

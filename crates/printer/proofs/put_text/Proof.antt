@@ -1,6 +1,6 @@
 use borrow.Author.Needs.{needs}
 use mathlib.Core.Path.{refl, sym, _∙_}
-use Rattle.printer.proofs.IntoLaws.{part-within, part-size, part-exact, part-filled}
+use Rattle.printer.proofs.FrontLaws.{part-within, part-size, part-exact, part-filled}
 use Rattle.printer.proofs.put_text.Statement.{statement}
 use Rattle.printer.proofs.put_text.Tie as tie
 

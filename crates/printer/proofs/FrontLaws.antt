@@ -2,15 +2,12 @@
 use mathlib.Core.Path.{_≡_, refl, sym, ap, _∙_}
 use mathlib.Core.Bool.{Bool, true, false, cond}
 use mathlib.Core.List.{List, _++_}
-use Prim.Native.Nat.{ℕ, suc, _+_, _-_, _≤_, _<_}
+use Prim.Native.Nat.{ℕ, suc, _≤_}
 use native.Mathlib.Omega.{arith}
 use lib.Dec.{eqb}
 use lib.ListN.{length, take, drop}
-use lib.Seq.{take-append-seam, length-take-le}
+use lib.Seq.{length-take-le}
 use borrow.Author.Tests.{eqb-true}
-use Rattle.base_ten.specs.Decimal.{mostDigits}
-use Rattle.base_ten.proofs.PutLaws.{digits-some}
-use Rattle.notation.specs.Trees.{Tree, nil, atom, pair}
 use Rattle.notation.specs.Print.{print}
 use Rattle.notation.specs.Brackets.{firstMet}
 use Rattle.notation.proofs.BracketLaws.{met-none, met-enough}
@@ -18,23 +15,11 @@ use Rattle.machine.specs.Texts.{opened, textFor}
 use Rattle.machine.proofs.TextLaws.{opened-enough}
 use Rattle.printer.specs.declared.Measured
 use Rattle.printer.specs.declared.Measured.{Measured}
-use Rattle.printer.specs.Measures.{measuredBy, measured, Exact, PutText, Into}
-
-print-some : (a : Tree) → 0 < length (print a)
-unfolding print
-print-some nil = omega arith
-print-some (atom v) = digits-some mostDigits v (omega arith)
-print-some (pair a d) = omega arith
+use Rattle.printer.specs.Measures.{measuredBy, measured, Exact, PutText}
 
 module _ (room : ℕ) (t : List ℕ) (w : ℕ) where
-  pub text-some : 0 < length (textFor room t w)
-  unfolding textFor
-  text-some = print-some (opened (suc room) t w)
-
-  -- n bytes were measured: the text fits, and fits a part of n bytes
+  -- n bytes were measured: the text fits a part of n bytes
   pub record Fits (n : ℕ) : Type 0 where
-    pub met : firstMet room 0 (textFor room t w) ≡ 0
-    pub count : n ≡ length (textFor room t w)
     pub within : n ≤ room
     pub exact : Exact n t w
     pub same : textFor n t w ≡ textFor room t w
@@ -46,8 +31,6 @@ module _ (room : ℕ) (t : List ℕ) (w : ℕ) where
       let enough = opened-enough n (suc room) t w (omega arith) in
       let fits : firstMet n 0 (print (opened (suc room) t w)) ≡ 0 = met-enough room n 0 (print (opened (suc room) t w)) met (omega arith) in
       record {
-        met = met;
-        count = count;
         within = within;
         exact = record { met = sym (enough .met) ∙ fits; size = sym (ap length (enough .text fits)) ∙ sym count };
         same = sym (enough .text fits);
@@ -62,17 +45,6 @@ module _ (room : ℕ) (t : List ℕ) (w : ℕ) where
       go true b e h = fits-exact n (eqb-true (firstMet room 0 (textFor room t w)) 0 e) (cc)
       go false true e h = absurd (let z : _≡_ {A = ℕ} 0 1 = cc in omega arith)
       go false false e h = absurd (let z : _≡_ {A = ℕ} 0 1 = cc in omega arith)
-
-  -- no bytes were measured: it does not fit
-  measured-not : firstMet room 0 (textFor room t w) ≡ 0 → measured room (textFor room t w) ≡ Measured.Bytes (length (textFor room t w))
-  unfolding measuredBy
-  measured-not met = rw met
-
-  pub measured-deep : Measured.TooDeep ≡ measured room (textFor room t w) → firstMet room 0 (textFor room t w) ≡ 0 → ⊥
-  measured-deep h met = let z : _≡_ {A = ℕ} 0 1 = cc (measured-not met) in omega arith
-
-  pub measured-no-room : Measured.NoRoom ≡ measured room (textFor room t w) → firstMet room 0 (textFor room t w) ≡ 0 → ⊥
-  measured-no-room h met = let z : _≡_ {A = ℕ} 0 1 = cc (measured-not met) in omega arith
 
 -- a part of n bytes at the front of a buffer, filled
 module _ (t : List ℕ) (w : ℕ) (old : List ℕ) (n : ℕ) (h : Measured.Bytes n ≡ measured (length old) (textFor (length old) t w)) where
@@ -89,15 +61,3 @@ module _ (t : List ℕ) (w : ℕ) (old : List ℕ) (n : ℕ) (h : Measured.Bytes
   part-filled part e =
       let text : part ≡ textFor (length old) t w = e ∙ rw part-size (measured-bytes (length old) t w n h .same) in
       record { exact = h; put = ap (λ (x : List ℕ). x ++ drop n old) text }
-
--- the part of the buffer that holds the text
-module _ (t : List ℕ) (w : ℕ) (old new : List ℕ) where
-  pub into-bytes : (n : ℕ) → PutText t w old new (Measured.Bytes n) → Into (length old) t w (take n new)
-  into-bytes n p =
-      let fits = measured-bytes (length old) t w n (p .exact) in
-      let text : take n new ≡ textFor (length old) t w =
-      rw (p .put, fits .count) (take-append-seam (textFor (length old) t w) (drop (length (textFor (length old) t w)) old)) in
-      record { fits = λ _. text; not = λ never. absurd (never (fits .met)); some = text-some (length old) t w }
-
-  pub into-none : (answer : Measured) → PutText t w old new answer → (firstMet (length old) 0 (textFor (length old) t w) ≡ 0 → ⊥) → Into (length old) t w (take 0 new)
-  into-none answer p never = record { fits = λ met. absurd (never met); not = λ _. refl; some = text-some (length old) t w }
