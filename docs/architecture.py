@@ -108,7 +108,8 @@ def crates():
     d.box("up_and_step", 915, 110, 120, 52, "test", ["up_and_step", "for measuring"])
     d.box("store_cases", 1055, 110, 160, 52, "test", ["store_cases", "program: twelve calls"])
     d.box("state_lines", 1055, 380, 160, 365, "test", ["state_lines", "reads the reference's", "lists, writes replies", "and stores"])
-    d.box("reference", 785, 30, 275, 48, "plain", ["reference", "the same machine in Rust, from the papers"], dashed=True)
+    d.box("c_calls", 750, 30, 160, 48, "test", ["c_calls", "operands by place"])
+    d.box("reference", 940, 30, 275, 48, "plain", ["reference", "the same machine in Rust, from the papers"], dashed=True)
 
     d.down("session", "session_lines")
     d.down("load", "load_lines")
@@ -137,6 +138,8 @@ def crates():
     d.down("store_cases", "state_lines")
     # store_cases stands on the store, too
     d.line([(1075, 162), (1075, 178), (975, 178), (975, 288)])
+    # c_calls calls what C calls
+    d.line([(750, 54), (732, 54), (732, 193)])
     # so do up_and_step and c_store; c_layout knows the machine alone
     d.line([(962, 162), (962, 288)])
     d.line([(717, 247), (717, 288)])
@@ -181,10 +184,9 @@ def crates():
     d.line([(395, 811), (372, 811)])
     d.line([(285, 842), (285, 870)])
     # expected outputs
-    d.line([(785, 54), (722, 54)], dashed=True)
-    d.line([(1060, 54), (1135, 54), (1135, 108)], dashed=True)
-    d.text(753, 46, "expected", 11, colour="#555")
-    d.text(1112, 46, "expected outputs", 11, colour="#555")
+    d.line([(1010, 30), (1010, 14), (610, 14), (610, 28)], dashed=True)
+    d.line([(1135, 78), (1135, 108)], dashed=True)
+    d.text(1083, 98, "expected outputs", 11, colour="#555")
     legend(d, 20, 940, [("definition", "definitions"), ("code", "code, proved equal to them"), ("theorem", "theorems about them"), ("face", "public calls"), ("text", "texts and programs"), ("test", "tests")])
     d.write("architecture.svg")
 

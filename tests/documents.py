@@ -148,7 +148,7 @@ class Citation:
 
 
 def documents(history=False):
-    return ["README.md"] + [f"docs/{name}" for name in folder("docs") if name.endswith(".md") and (history or f"docs/{name}" != HISTORY)]
+    return ["README.md", "evidence/README.md"] + [f"docs/{name}" for name in folder("docs") if name.endswith(".md") and (history or f"docs/{name}" != HISTORY)]
 
 
 def prose(document):
@@ -193,9 +193,11 @@ def citations(document):
 
 NAME = r"[A-Za-z][\w′-]*"
 # Words of the language, of a session, of a proof's script and of tools, which name nothing of the repository.
-WORDS = set("""OK NO BAD IDLE _ a b c r s s′ t1 t2 cc rw if use const static return requires ensures unfoldable omega simp search proved setl setr
+WORDS = set("""OK NO BAD IDLE ACCEPTED _ a b c r s s′ t1 t2 cc rw if use const static return requires ensures unfoldable omega simp search proved setl setr
 loop-again loop-holds loop-less returns returns-2 memcpy memset size_t u16 rt stdout check row_ rattle-kit-5b-plain B C U""".split())
 EXAMPLES = {"File.name", "p.b", "p.c", "Lts.antt", "reply.queue"}
+# CRATE, NAME and the like stand for any.
+PLACEHOLDER = re.compile(r"(?:^|/)[A-Z]{4,}\b")
 FILE = re.compile(r"[\w./-]+\.(?:rt|c|h|sh|py|md|txt|list|inputs|outputs|sums|session|edit|rs|awk|svg)")
 
 
@@ -288,7 +290,7 @@ def edits():
     alone = {edit.rsplit("/", 1)[1] for edit in repository.edits}
     for document in documents():
         for cited in citations(document):
-            edit = re.fullmatch(r"(\w+/must-fail/\w+|evidence/\w+/\w+)(?:\.edit)?", cited.words)
+            edit = re.fullmatch(r"(\w+/must-fail/\w+|evidence/\w+/\w+)(?:\.edit)?", cited.words) if not PLACEHOLDER.search(cited.words) else None
             if edit and edit.group(1) not in repository.edits:
                 yield f"{cited}: no such edit"
             elif edit and document == "docs/TRACE.md":
@@ -461,6 +463,8 @@ def links():
     for document in documents():
         for cited in citations(document):
             words = cited.words.split(" ")[0].rstrip("/")
+            if PLACEHOLDER.search(words):
+                continue
             if words.split("/")[0] in crates:
                 words = "crates/" + re.sub(r"\.[^/]*$", "", words)
             above = words.split("/")[0] in tops and "/" in words
@@ -497,11 +501,16 @@ def tables():
     for document, heading in (("README.md", "## The crates, bottom to top"), ("docs/ARCHITECTURE.md", "## Why each part is where it is")):
         yield from compare(document, re.findall(r"`(\w+)`", " ".join(table_after(document, heading))), crates)
     yield from compare("README.md, the files of crates/machine/specs", re.findall(r"`(\w+)`", " ".join(table_after("README.md", believed)) + helpers), specs)
-    written = [f"docs/{name}" for name in folder("docs") if name.endswith(".md")] + ["include/row_store.h"]
+    written = [f"docs/{name}" for name in folder("docs") if name.endswith(".md")] + ["evidence/README.md", "include/row_store.h"]
     yield from compare("README.md, the documents", re.findall(r"`([\w./]+)`", " ".join(table_after("README.md", "## Documents"))), written)
 
 
-TESTS = {test.__name__: test for test in (names, edits, counts, pictures, links, tables)}
+def dependencies():
+    from dependencies import differences
+    return differences(ROOT)
+
+
+TESTS = {test.__name__: test for test in (names, edits, counts, pictures, links, tables, dependencies)}
 
 if __name__ == "__main__":
     for offence in TESTS[sys.argv[1]]():

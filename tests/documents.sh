@@ -23,5 +23,6 @@ try counts 'the numbers in docs/TRACE.md, docs/ASSUMPTIONS.md and README.md are 
 try pictures 'the pictures are those that docs/architecture.py draws, with every crate'
 try links 'every link, anchor and path leads somewhere'
 try tables 'the tables have every crate, every file of crates/machine/specs and every document, and no other'
+try dependencies 'crates.txt lists for each crate the crates that its own files name, and no others'
 
 conclude

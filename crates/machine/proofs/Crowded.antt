@@ -225,7 +225,7 @@ module _ (n word holds : ℕ) (small : word ≤ 1) (some : 1 ≤ holds) (few : h
         and-both (all-cells (λ i. true) (λ i l. refl))
         (all-cells (λ i. eqb (wordAt t i nameCount) 0) (λ i l. eq-eqb (wordAt t i nameCount) 0 (unnamed-at i l)))
 
-    pointed : pointersSound t [] ≡ true
+    pub pointed : pointersSound t [] ≡ true
     unfolding pointersSound undoes before
     pointed = and-both pointers-few (all-cells (λ i. eqb (wordAt t i cellCount) (pointers t (suc i))) (λ i l. eq-eqb (wordAt t i cellCount) (pointers t (suc i)) (count-at i l)))
 

@@ -17,6 +17,7 @@ pub mod Names
 pub mod Fresh
 pub mod Answers
 pub mod Questions
+pub mod Meanings
 pub mod Kept
 pub mod NilReads
 pub mod AuditedSound
@@ -28,5 +29,8 @@ pub mod Stages
 pub mod OnlyAnswers
 pub mod Crowded
 pub mod ManyPointers
+pub mod PointerCeiling
 pub mod WrongAnswers
+pub mod RingText
+pub mod TextBorders
 pub mod TextLaws

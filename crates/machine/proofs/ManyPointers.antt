@@ -103,7 +103,7 @@ module _ (n holds : ℕ) (some : 1 ≤ holds) (few : holds ≤ ceiling) (fits : 
         (λ i l. le-leb (wordAt t i rootCount + waitingChange root plus (suc i) (replace k b ∷ [])) (ceiling + waitingChange root minus (suc i) (replace k b ∷ []))
         (omega (arith, held-at n word holds small some few i l .1, raises-none k f kind b (suc i))))
 
-  over : ceiling < 2 + 2 * n → pointersWithin v ≡ false
+  pub over : ceiling < 2 + 2 * n → pointersWithin v ≡ false
   unfolding pointersWithin
   over h =
       let p : pointers v 1 ≡ 1 + matching 1 1 1 + 2 * n = pointers-first n 1 holds (omega arith) some few in
@@ -185,6 +185,7 @@ module _ (n holds : ℕ) (some : 1 ≤ holds) (few : holds ≤ ceiling) (fits : 
 
 -- the entries, with 2,047 cells beside the first
 pub pointers-only : AllOnly pointer-entries
+unfolding putWord position
 pointers-only = (
   only-ten 2047 2 (omega arith) (omega arith) (omega arith) _ (omega arith) (omega arith),
   (

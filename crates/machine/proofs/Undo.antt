@@ -14,7 +14,8 @@ use Rattle.machine.specs.Queue.{Packet}
 use Rattle.machine.specs.Counts.{pointers}
 use Rattle.machine.specs.Questions.{pointersWithin}
 use Rattle.machine.specs.Audit.{undoable, undone, before, undoes, pointersSound}
-use Rattle.machine.specs.Facts.{Within, Stages, Undoing}
+use Rattle.machine.specs.Facts as stage
+use Rattle.machine.specs.Facts.{Within, Stages, stands, Undoing}
 use Rattle.machine.proofs.Range.{and-both, and-first, and-second, every-at, every-all}
 
 pub within-is : (t : List ℕ) → (pointersWithin t ≡ true) ↔ Within t
@@ -45,26 +46,22 @@ undoes-within t (p ∷ ps) h = and-second (undoes t ps && undoable (before t ps)
 
 stages-facts : (t : List ℕ) (ps : List Packet) → undoes t ps ≡ true → Stages t ps (before t ps ∷ stagesAfter t ps)
 unfolding stagesAfter before
-stages-facts t [] h = (refl, within-is t .0 (undoes-within t [] h))
+stages-facts t [] h = stands (within-is t .0 (undoes-within t [] h))
 stages-facts t (p ∷ ps) h =
-    (undoes-holds t p ps h, refl, within-is (before t (p ∷ ps)) .0 (undoes-within t (p ∷ ps) h), stages-facts t ps (undoes-rest t p ps h))
+    stage.undoes (undoes-holds t p ps h) (within-is (before t (p ∷ ps)) .0 (undoes-within t (p ∷ ps) h)) (stages-facts t ps (undoes-rest t p ps h))
 
 -- stages are as the definition has them
 stages-oldest : (t : List ℕ) (ps : List Packet) (v : List ℕ) (vs : List (List ℕ)) → Stages t ps (v ∷ vs) → v ≡ before t ps
 unfolding before
-stages-oldest t [] v [] h = h .0
-stages-oldest t [] v (w ∷ vs) h = absurd h
-stages-oldest t (p ∷ ps) v [] h = absurd h
-stages-oldest t (p ∷ ps) v (w ∷ vs) h = h .1 ∙ ap (λ (u : List ℕ). undone u p) (stages-oldest t ps w vs (h .3))
+stages-oldest t [] v vs (stands h) = refl
+stages-oldest t (p ∷ ps) v vs (stage.undoes {w = w} {vs = ws} h k r) = ap (λ (u : List ℕ). undone u p) (stages-oldest t ps w ws r)
 
 stages-test : (t : List ℕ) (ps : List Packet) (v : List ℕ) (vs : List (List ℕ)) → Stages t ps (v ∷ vs) → undoes t ps ≡ true
-unfolding undoes
-stages-test t [] v [] h = within-is t .1 (rw (h .0) at (h .1))
-stages-test t [] v (w ∷ vs) h = absurd h
-stages-test t (p ∷ ps) v [] h = absurd h
-stages-test t (p ∷ ps) v (w ∷ vs) h =
-    and-both (and-both (stages-test t ps w vs (h .3)) (rw (stages-oldest t ps w vs (h .3)) at (h .0)))
-    (within-is (before t (p ∷ ps)) .1 (rw (stages-oldest t (p ∷ ps) v (w ∷ vs) h) at (h .2)))
+unfolding undoes before
+stages-test t [] v vs (stands h) = within-is t .1 h
+stages-test t (p ∷ ps) v vs (stage.undoes {w = w} {vs = ws} h k r) =
+    let e = stages-oldest t ps w ws r in
+    and-both (and-both (stages-test t ps w ws r) (rw e at h)) (within-is (undone (before t ps) p) .1 (rw e at k))
 
 -- S4's meaning
 pub undoing-is : (t : List ℕ) (ps : List Packet) → (pointersSound t ps ≡ true) ↔ ((v : List ℕ) × (vs : List (List ℕ)) × Undoing t ps v vs)

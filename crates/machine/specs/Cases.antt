@@ -5,11 +5,12 @@ use mathlib.Core.List.{List, [], _∷_, _++_}
 use Prim.Native.Nat.{ℕ}
 use lib.ListN.{replicate}
 use Rattle.machine.specs.declared.Queue.{Queue}
-use Rattle.machine.specs.Table.{tableLength}
+use Rattle.machine.specs.Table.{tableLength, freeCell}
 use Rattle.machine.specs.Queue.{packet, emptyQueue, appended}
 use Rattle.machine.specs.Calls.{Call, fresh, row, step, audit, car, cdr, cons, setLeft, setRight, up, down}
 use Rattle.machine.specs.Calls.{Reply, value, refused, idle, applied, sound, broken, Store, store}
 use Rattle.machine.specs.Machine.{run, replies}
+use Rattle.machine.specs.Worked.{tableOf, cellOf}
 
 -- a store before its first fresh, its table long enough for three cells, and a used scratch of four words
 abbrev pub unmade : Store
@@ -46,11 +47,7 @@ K1-replies =
     ∷ applied 2 0 ∷ applied 2 0 ∷ applied 4 0 ∷ applied 6 0 ∷ applied 5 2 ∷ idle ∷ []
 
 abbrev pub K1-table : List ℕ
-K1-table =
-    3 ∷ 3 ∷ 2
-    ∷ 2 ∷ 0 ∷ 0 ∷ 0 ∷ 0 ∷ 0
-    ∷ 0 ∷ 0 ∷ 0 ∷ 0 ∷ 0 ∷ 0
-    ∷ 1 ∷ 0 ∷ 0 ∷ 0 ∷ 0 ∷ 0 ∷ []
+K1-table = tableOf 3 2 (freeCell 2 ∷ freeCell 0 ∷ freeCell 1 ∷ []) []
 
 -- these calls with 64 packets waiting and no cell free
 abbrev when-full : List Call → List Reply → Case
@@ -96,16 +93,12 @@ detach-replies =
     value 0 ∷ value 1 ∷ value 0 ∷ value 2 ∷ value 1 ∷ applied 2 0 ∷ applied 4 0 ∷ applied 2 0 ∷ applied 3 0 ∷ sound ∷ []
 
 abbrev pub detach-table : List ℕ
-detach-table =
-    3 ∷ 3 ∷ 3
-    ∷ 0 ∷ 0 ∷ 1 ∷ 0 ∷ 1 ∷ 0
-    ∷ 0 ∷ 0 ∷ 1 ∷ 0 ∷ 1 ∷ 0
-    ∷ 0 ∷ 0 ∷ 0 ∷ 0 ∷ 0 ∷ 0 ∷ []
+detach-table = tableOf 3 3 (cellOf 0 0 1 0 0 ∷ cellOf 0 0 1 0 0 ∷ freeCell 0 ∷ []) []
 
 -- a sound store of two cells in which only a waiting packet of kind 1 names cell 1 (figure 9): a step does not free it
 abbrev pub named-only : Store
 named-only =
-    store (2 ∷ 0 ∷ 0 ∷ 0 ∷ 0 ∷ 0 ∷ 0 ∷ 1 ∷ 1 ∷ 0 ∷ 0 ∷ 1 ∷ 0 ∷ 1 ∷ 2 ∷ [])
+    store (tableOf 0 0 (cellOf 0 0 0 0 1 ∷ cellOf 0 0 1 0 2 ∷ []) [])
     (appended (appended emptyQueue (packet 4 2 1 0)) (packet 1 2 1 0)) (0 ∷ 0 ∷ [])
 
 abbrev protected : Case
@@ -123,14 +116,14 @@ audits t q r = record { start = store t q (5 ∷ []); calls = audit ∷ []; expe
 -- waiting packet whose cell is not held; a cell count that is not the pointers; a cell in use that nothing reaches
 abbrev audit-cases : List Case
 audit-cases =
-    audits (1 ∷ 0 ∷ 0 ∷ 0 ∷ 0 ∷ 4096 ∷ 0 ∷ 1 ∷ 0 ∷ []) emptyQueue (broken 1)
-    ∷ audits (1 ∷ 0 ∷ 0 ∷ 0 ∷ 0 ∷ 4095 ∷ 0 ∷ 1 ∷ 0 ∷ []) emptyQueue sound
-    ∷ audits (1 ∷ 0 ∷ 0 ∷ 2 ∷ 0 ∷ 1 ∷ 0 ∷ 1 ∷ 0 ∷ []) emptyQueue (broken 1)
-    ∷ audits (1 ∷ 0 ∷ 0 ∷ 0 ∷ 0 ∷ 0 ∷ 0 ∷ 0 ∷ 0 ∷ []) emptyQueue (broken 2)
-    ∷ audits (1 ∷ 1 ∷ 1 ∷ 1 ∷ 0 ∷ 0 ∷ 0 ∷ 0 ∷ 0 ∷ []) emptyQueue (broken 2)
-    ∷ audits (1 ∷ 0 ∷ 0 ∷ 0 ∷ 0 ∷ 1 ∷ 0 ∷ 1 ∷ 1 ∷ []) (appended emptyQueue (packet 5 1 2 0)) (broken 3)
-    ∷ audits (1 ∷ 0 ∷ 0 ∷ 0 ∷ 0 ∷ 1 ∷ 1 ∷ 1 ∷ 0 ∷ []) emptyQueue (broken 4)
-    ∷ audits (1 ∷ 0 ∷ 0 ∷ 1 ∷ 0 ∷ 0 ∷ 1 ∷ 1 ∷ 0 ∷ []) emptyQueue (broken 5)
+    audits (tableOf 0 0 (cellOf 0 0 4096 0 0 ∷ []) []) emptyQueue (broken 1)
+    ∷ audits (tableOf 0 0 (cellOf 0 0 4095 0 0 ∷ []) []) emptyQueue sound
+    ∷ audits (tableOf 0 0 (cellOf 2 0 1 0 0 ∷ []) []) emptyQueue (broken 1)
+    ∷ audits (tableOf 0 0 (freeCell 0 ∷ []) []) emptyQueue (broken 2)
+    ∷ audits (tableOf 1 1 (freeCell 1 ∷ []) []) emptyQueue (broken 2)
+    ∷ audits (tableOf 0 0 (cellOf 0 0 1 0 1 ∷ []) []) (appended emptyQueue (packet 5 1 2 0)) (broken 3)
+    ∷ audits (tableOf 0 0 (cellOf 0 0 1 1 0 ∷ []) []) emptyQueue (broken 4)
+    ∷ audits (tableOf 0 0 (cellOf 1 0 0 1 0 ∷ []) []) emptyQueue (broken 5)
     ∷ []
 
 -- the walk of a list of three with cdr to its end, and one read past it; the packets of the cons calls and of three reads are all that wait

@@ -1,11 +1,11 @@
--- What questions 1 and 2, the audit's tests S2, S3 and S4, the step's sweep and fresh mean, as plain facts. That they say just this is proved in proofs/.
+-- What questions 1 and 2, the audit's tests S2, S3 and S4, the step's sweep and fresh mean, as plain facts.
 use mathlib.Core.Path.{_≡_}
 use mathlib.Core.Logic.{_≢_, _↔_}
 use mathlib.Core.Bool.{true, false, cond}
 use mathlib.Core.List.{List, [], _∷_, _++_, map}
 use Prim.Native.Nat.{ℕ, suc, _+_, _-_, _≤_, _<_}
 use lib.ListN.{length, drop}
-use Rattle.machine.specs.Range.{matching, occurrences, lastOf}
+use Rattle.machine.specs.Range.{every, matching, occurrences, lastOf}
 use Rattle.machine.specs.declared.Queue.{Queue}
 use Rattle.machine.specs.Words.{ceiling, mostCells}
 use Rattle.machine.specs.Table.{stride, left, right, cellCount, capacity, firstFree, lastFree, tableLength, scratchWords, wordAt, inUse, isFree}
@@ -13,7 +13,10 @@ use Rattle.machine.specs.Queue.{Packet, slots}
 use Rattle.machine.specs.Packets.{uses, contains}
 use Rattle.machine.specs.Counts.{pointers}
 use Rattle.machine.specs.Reached.{Reached}
-use Rattle.machine.specs.Audit.{replayed, undoable, undone}
+use Rattle.machine.specs.Calls.{freshTable}
+use Rattle.machine.specs.Step.{unreached, swept}
+use Rattle.machine.specs.Questions.{inRange, scratchEnough}
+use Rattle.machine.specs.Audit.{chainSound, replayed, replays, undoable, undone, pointersSound}
 
 -- Question 1: of the table,
 pub record TableShape (t : List ℕ) : Type 0 where
@@ -68,14 +71,12 @@ Replay c counts (p ∷ ps) = ReplayStage c p counts × Replay c (replayedCounts 
 abbrev pub Within : List ℕ → Type 0
 Within t = (i : ℕ) → i < capacity t → pointers t (suc i) ≤ ceiling
 
--- S4: the stages of the undoing, oldest first, the last one the table as it stands; v is the table before the packet p, w the one after it
-abbrev pub Stages : List ℕ → List Packet → List (List ℕ) → Type 0
-Stages t [] [] = ⊥
-Stages t [] (v ∷ []) = (v ≡ t) × Within v
-Stages t [] (v ∷ w ∷ vs) = ⊥
-Stages t (p ∷ ps) [] = ⊥
-Stages t (p ∷ ps) (v ∷ []) = ⊥
-Stages t (p ∷ ps) (v ∷ w ∷ vs) = (undoable w p ≡ true) × (v ≡ undone w p) × Within v × Stages t ps (w ∷ vs)
+-- S4: the stages of the undoing, oldest first, the last one the table as it stands
+pub data Stages (t : List ℕ) : List Packet → List (List ℕ) → Type 0 where
+  stands : Within t → Stages t [] (t ∷ [])
+  -- one stage more: w is the table after the packet p, the new stage the one before it
+  undoes : {p : Packet} {ps : List Packet} {w : List ℕ} {vs : List (List ℕ)} → undoable w p ≡ true → Within (undone w p) → Stages t ps (w ∷ vs)
+      → Stages t (p ∷ ps) (undone w p ∷ w ∷ vs)
 
 -- S4: the stages, and the cell counts are the pointers found at the oldest
 pub record Undoing (t : List ℕ) (ps : List Packet) (oldest : List ℕ) (others : List (List ℕ)) : Type 0 where
@@ -124,3 +125,18 @@ pub record FreshTable (c : ℕ) (t t′ : List ℕ) : Type 0 where
   pub next : (i : ℕ) → suc i < c → wordAt t′ i left ≡ suc (suc i)
   pub end : (i : ℕ) → suc i ≡ c → wordAt t′ i left ≡ 0
   pub zeros : (i k : ℕ) → i < c → right ≤ k → k < stride → wordAt t′ i k ≡ 0
+
+-- That the definitions say just this. The proof is `meanings` in proofs/Meanings.
+pub record Meanings : Type 0 where
+  -- question 1, and questions 1 and 2, of any table, queue and scratch
+  pub shape : (t : List ℕ) (q : Queue) → (inRange t q ≡ true) ↔ Shape t q
+  pub lent : (t : List ℕ) (q : Queue) (s : List ℕ) → ((inRange t q ≡ true) × (scratchEnough t s ≡ true)) ↔ Lent t q s
+  -- the tests S2, S3 and S4, of any table, root counts and packets
+  pub chain : (t : List ℕ) → (chainSound t ≡ true) ↔ ((is : List ℕ) × Chain t is)
+  pub replay : (c : ℕ) (counts : ℕ → ℕ) (ps : List Packet) → (every c (λ i. replays (suc i) (counts i) ps) ≡ true) ↔ Replay c counts ps
+  pub undoing : (t : List ℕ) (ps : List Packet) → (pointersSound t ps ≡ true) ↔ ((v : List ℕ) × (vs : List (List ℕ)) × Undoing t ps v vs)
+  -- the cells that a step frees, and what becomes of a table that has the words for its cells
+  pub dead : (t : List ℕ) → Dead t (unreached t)
+  pub sweep : (t : List ℕ) → tableLength (capacity t) ≤ length t → lastFree t ≤ capacity t → Sweep t (unreached t) (swept t (unreached t))
+  -- fresh, of any table that is long enough
+  pub fresh : (c : ℕ) (t : List ℕ) → tableLength c ≤ length t → FreshTable c t (freshTable c t)

@@ -19,6 +19,7 @@ pub mod Promise
 pub mod AuditedSound
 pub mod RootsByCell
 pub mod Counters
+pub mod Worked
 pub mod Cases
 pub mod Stages
 -- what a step's code does instead of marking: no promise speaks of it

@@ -104,16 +104,14 @@ usesOf unknown a b c x = 0
 unfoldable pub uses : Packet → ℕ → ℕ
 uses p x = usesOf (kindOf (p .kind)) (p .a) (p .b) (p .c) x
 
+-- a number for each counter, by which two are compared
+abbrev pub counterCode : Counter → ℕ
+counterCode root = 0
+counterCode cell = 1
+counterCode name = 2
+
 abbrev pub sameCounter : Counter → Counter → Bool
-sameCounter root root = true
-sameCounter root cell = false
-sameCounter root name = false
-sameCounter cell root = false
-sameCounter cell cell = true
-sameCounter cell name = false
-sameCounter name root = false
-sameCounter name cell = false
-sameCounter name name = true
+sameCounter k l = eqb (counterCode k) (counterCode l)
 
 abbrev pub sameDirection : Direction → Direction → Bool
 sameDirection plus plus = true

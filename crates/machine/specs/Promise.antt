@@ -5,7 +5,6 @@ use mathlib.Core.Logic.{_⊎_}
 use mathlib.Core.List.{List, _++_, map}
 use Prim.Native.Nat.{ℕ, suc}
 use lib.ListN.{length, drop}
-use Rattle.machine.specs.Words.{isCell}
 use Rattle.machine.specs.Table.{capacity, tableLength, scratchWords}
 use Rattle.machine.specs.Packets.{contains}
 use Rattle.machine.specs.Calls.{Call, fresh, row, step, audit, read, write, Reply, refused, Store, readsNil}
@@ -16,14 +15,14 @@ use Rattle.machine.specs.declared.LengthAnswer.{LengthAnswer}
 use Rattle.machine.specs.Answers.{TellsLength, filledPart}
 
 -- Where the papers decide all that a call gives: fresh and the audit always, any other call on a sound store. On every store decided are an idle step and
--- a read of nil; and, stronger than the papers ask, reading a text without pairs and writing a word that is no cell.
+-- a read of nil; and, stronger than the papers ask, reading a text without pairs and writing.
 abbrev pub Decided : Store → Call → Type 0
 Decided s (fresh c) = Unit {0}
 Decided s (row r) = Sound (s .table) (s .queue) ⊎ (readsNil r ≡ true)
 Decided s step = Sound (s .table) (s .queue) ⊎ (s .queue .count ≡ 0)
 Decided s audit = Unit {0}
 Decided s (read text) = Sound (s .table) (s .queue) ⊎ (textPairs text ≡ 0)
-Decided s (write w room) = Sound (s .table) (s .queue) ⊎ (isCell (capacity (s .table)) w ≡ false)
+Decided s (write w room) = Unit {0}
 
 -- nothing past the last cell's words or past the scratch that a table of C cells needs is written, and C stands
 pub record Untouched (s s′ : Store) : Type 0 where
@@ -76,8 +75,10 @@ pub record TextPut (s : Store) (w : ℕ) (old new : List ℕ) (answer : LengthAn
   pub told : TellsLength answer reply
   pub buffer : new ≡ filledPart reply ++ drop (length (filledPart reply)) old
 
--- the part of the buffer that is handed back: the text; where the writing is refused it is empty, which no text is
-pub record TextHanded (s : Store) (w room : ℕ) (part : List ℕ) : Type 0 where
+-- The part of the buffer that is handed back begins where the buffer begins, and is the text; where the writing is refused it is empty, which no text is. A
+-- place in memory is a block and an offset in it.
+pub record TextHanded (s : Store) (w room : ℕ) (buffer begin : ℕ × ℕ) (part : List ℕ) : Type 0 where
   pub reply : Reply
   pub promise : Promise s (write w room) reply s
   pub filled : part ≡ filledPart reply
+  pub front : begin ≡ buffer

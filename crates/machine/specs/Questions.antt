@@ -7,7 +7,7 @@ use lib.ListN.{length}
 use Rattle.notation.specs.Trees.{pairs}
 use Rattle.notation.specs.Grammar.{mostText}
 use Rattle.notation.specs.Parse.{parse, isTree, meaning}
-use Rattle.notation.specs.Brackets.{tooDeep, firstMet}
+use Rattle.notation.specs.Brackets.{tooDeep, Met, isTooMany, isNoRoom, firstMet}
 use Rattle.machine.specs.declared.Queue.{Queue}
 use Rattle.machine.specs.Range.{every, exists, select, everyOf}
 use Rattle.machine.specs.Words.{isNil, isCell, isLegal, mayBeStored, ceiling, mostCells}
@@ -120,7 +120,7 @@ unfoldable pub wordHeld : List ℕ → List Packet → ℕ → Bool
 wordHeld t ps w = cond (isCell (capacity t) w) (heldAtLeast t ps (pred w) 1) true
 
 -- 12 and 13 of a word written, by which is met first: no bracket too many, and no byte without room
-unfoldable pub met : ℕ → List ℕ → ℕ → ℕ
+unfoldable pub met : ℕ → List ℕ → ℕ → Met
 met room t w = firstMet room 0 (textFor room t w)
 
 -- 14. each word put into a cell is no atom, or an atom of a value below 4,095
@@ -135,8 +135,7 @@ textStorable text = atomsStorable (meaning (parse text))
 abbrev pub askRead : List ℕ → ℕ → List Question
 askRead t x = cond (isNil x) [] (ask 5 (xIsCell t x) ∷ [])
 
--- questions 1 to 5 and 14, and 11 and 12 of a text read, which have an answer on every store: 14 is asked of the words put into a cell, both of a cons
--- and y of a replace
+-- of a row call: 3 to 5 and 14, which is asked of the words put into a cell, both of a cons and y of a replace
 unfoldable pub earlyRow : List ℕ → RowCall → List Question
 earlyRow t (car x) = ask 4 (wordsLegal t (x ∷ [])) ∷ askRead t x
 earlyRow t (cdr x) = ask 4 (wordsLegal t (x ∷ [])) ∷ askRead t x
@@ -146,6 +145,7 @@ earlyRow t (setRight x y) = ask 4 (wordsLegal t (x ∷ y ∷ [])) ∷ ask 5 (xIs
 earlyRow t (up x n) = ask 3 (numberInRange n) ∷ ask 4 (wordsLegal t (x ∷ [])) ∷ ask 5 (xIsCell t x) ∷ []
 earlyRow t (down x n) = ask 3 (numberInRange n) ∷ ask 4 (wordsLegal t (x ∷ [])) ∷ ask 5 (xIsCell t x) ∷ []
 
+-- the questions that have an answer on every store: 1 to 5 and 14, and 11 and 12 of a text read
 unfoldable pub early : Store → Call → List Question
 early s (fresh c) = ask 3 (cellsInRange c) ∷ ask 1 (longEnough c (s .table)) ∷ []
 early s (row r) = ask 1 (inRange (s .table) (s .queue)) ∷ earlyRow (s .table) r
@@ -185,8 +185,8 @@ late s audit = []
 late s (read text) = ask 7 (slotsEmpty (s .queue) (textPairs text)) ∷ ask 8 (cellsFree (s .table) (textPairs text)) ∷ []
 late s (write w room) =
     ask 6 (wordHeld (s .table) (waiting (s .queue)) w)
-    ∷ ask 12 (not (eqb (met room (s .table) w) 12))
-    ∷ ask 13 (not (eqb (met room (s .table) w) 13))
+    ∷ ask 12 (not (isTooMany (met room (s .table) w)))
+    ∷ ask 13 (not (isNoRoom (met room (s .table) w)))
     ∷ []
 
 unfoldable pub questions : Store → Call → List Question

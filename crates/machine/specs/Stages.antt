@@ -9,6 +9,7 @@ use Rattle.machine.specs.Queue.{Packet, packet, emptyQueue, appended}
 use Rattle.machine.specs.Packets.{Change, rootDown, cellUp, cellDown, changes}
 use Rattle.machine.specs.Step.{applyChanges}
 use Rattle.machine.specs.Audit.{Sound}
+use Rattle.machine.specs.Worked.{tableOf, cellOf}
 
 -- the table when the first n changes of the packet are made
 unfoldable pub stage : List ℕ → Packet → ℕ → List ℕ
@@ -20,7 +21,7 @@ stages t p = map (stage t p) (select (suc (length (changes p))) (λ n. true))
 
 -- two cells with these root and cell counts, the second's left field pointing to the first; one packet names the first twice and the second once
 abbrev counted : ℕ → ℕ → ℕ → ℕ → List ℕ
-counted r c s d = 2 ∷ 0 ∷ 0 ∷ 0 ∷ 0 ∷ r ∷ c ∷ 1 ∷ 2 ∷ 1 ∷ 0 ∷ s ∷ d ∷ 1 ∷ 1 ∷ []
+counted r c s d = tableOf 0 0 (cellOf 0 0 r c 2 ∷ cellOf 1 0 s d 1 ∷ []) []
 
 -- a packet taken from a table, and the tables that it passes through
 pub record Way : Type 0 where

@@ -22,8 +22,23 @@ unfoldable pub tooDeep : ℕ → List ℕ → Bool
 tooDeep n [] = false
 tooDeep n (b ∷ bs) = opensTooMany n b || tooDeep (openAfter n b) bs
 
--- What is met first when a text goes byte by byte into so much room: a bracket too many is refusal 12, a byte without room 13, and 0 is none. Where both
--- meet at one bracket it is 12.
-unfoldable pub firstMet : ℕ → ℕ → List ℕ → ℕ
-firstMet room n [] = 0
-firstMet room n (b ∷ bs) = cond (opensTooMany n b) 12 (cond (eqb room 0) 13 (firstMet (pred room) (openAfter n b) bs))
+-- What is met first when a text goes byte by byte into so much room: nothing, a bracket too many, or a byte without room.
+pub data Met : Type 0 where
+  nothing : Met
+  tooMany : Met
+  noRoom : Met
+
+abbrev pub isTooMany : Met → Bool
+isTooMany nothing = false
+isTooMany tooMany = true
+isTooMany noRoom = false
+
+abbrev pub isNoRoom : Met → Bool
+isNoRoom nothing = false
+isNoRoom tooMany = false
+isNoRoom noRoom = true
+
+-- Where both meet at one bracket it is the bracket.
+unfoldable pub firstMet : ℕ → ℕ → List ℕ → Met
+firstMet room n [] = nothing
+firstMet room n (b ∷ bs) = cond (opensTooMany n b) tooMany (cond (eqb room 0) noRoom (firstMet (pred room) (openAfter n b) bs))

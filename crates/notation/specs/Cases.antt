@@ -10,7 +10,7 @@ use Rattle.notation.specs.Trees.{Tree, nil, atom, pair}
 use Rattle.notation.specs.Grammar.{openByte, closeByte}
 use Rattle.notation.specs.Parse.{tree, none, parse}
 use Rattle.notation.specs.Print.{print}
-use Rattle.notation.specs.Brackets.{tooDeep, firstMet}
+use Rattle.notation.specs.Brackets.{tooDeep, Met, nothing, tooMany, noRoom, firstMet}
 
 -- (1 2 3), (1 2 . 3) and ((1) 2)
 abbrev oneTwoThree : Tree
@@ -84,18 +84,17 @@ nested n = replicate n openByte ++ replicate n closeByte
 abbrev pub depths : List (List ℕ × Bool)
 depths = (nested 32, false) ∷ (nested 33, true) ∷ (nested 32 ++ nested 32, false) ∷ (nested 32 ++ nested 33, true) ∷ []
 
--- room, a text, and what is met first: the 33rd bracket is refused with 12 where it has room and where it has none, and 13 is met before it where room ends
--- earlier
-abbrev pub met : List (ℕ × List ℕ × ℕ)
+-- room, a text, and what is met first: at the 33rd bracket that bracket, where it has room and where it has none; and no room where the room ends earlier
+abbrev pub met : List (ℕ × List ℕ × Met)
 met =
-    (3, ascii "(1)", 0)
-    ∷ (2, ascii "(1)", 13)
-    ∷ (0, ascii "1", 13)
-    ∷ (64, nested 32, 0)
-    ∷ (63, nested 32, 13)
-    ∷ (33, nested 33, 12)
-    ∷ (32, nested 33, 12)
-    ∷ (31, nested 33, 13)
+    (3, ascii "(1)", nothing)
+    ∷ (2, ascii "(1)", noRoom)
+    ∷ (0, ascii "1", noRoom)
+    ∷ (64, nested 32, nothing)
+    ∷ (63, nested 32, noRoom)
+    ∷ (33, nested 33, tooMany)
+    ∷ (32, nested 33, tooMany)
+    ∷ (31, nested 33, noRoom)
     ∷ []
 
 pub record NotationCases : Type 0 where
@@ -103,4 +102,4 @@ pub record NotationCases : Type 0 where
   pub refused : map (λ (s : String). parse (ascii s)) outsiders ≡ map (λ (s : String). none) outsiders
   pub printed : map (λ (c : Tree × String). print (c .0)) written ≡ map (λ (c : Tree × String). ascii (c .1)) written
   pub deep : map (λ (c : List ℕ × Bool). tooDeep 0 (c .0)) depths ≡ map (λ (c : List ℕ × Bool). c .1) depths
-  pub first : map (λ (c : ℕ × List ℕ × ℕ). firstMet (c .0) 0 (c .1)) met ≡ map (λ (c : ℕ × List ℕ × ℕ). c .2) met
+  pub first : map (λ (c : ℕ × List ℕ × Met). firstMet (c .0) 0 (c .1)) met ≡ map (λ (c : ℕ × List ℕ × Met). c .2) met

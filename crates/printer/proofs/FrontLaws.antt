@@ -9,7 +9,7 @@ use lib.ListN.{length, take, drop}
 use lib.Seq.{length-take-le}
 use borrow.Author.Tests.{eqb-true}
 use Rattle.notation.specs.Print.{print}
-use Rattle.notation.specs.Brackets.{firstMet}
+use Rattle.notation.specs.Brackets.{Met, nothing, tooMany, noRoom, firstMet}
 use Rattle.notation.proofs.BracketLaws.{met-none, met-enough}
 use Rattle.machine.specs.Texts.{opened, textFor}
 use Rattle.machine.proofs.TextLaws.{opened-enough}
@@ -24,12 +24,12 @@ module _ (room : ℕ) (t : List ℕ) (w : ℕ) where
     pub exact : Exact n t w
     pub same : textFor n t w ≡ textFor room t w
 
-  fits-exact : (n : ℕ) → firstMet room 0 (textFor room t w) ≡ 0 → n ≡ length (textFor room t w) → Fits n
+  fits-exact : (n : ℕ) → firstMet room 0 (textFor room t w) ≡ nothing → n ≡ length (textFor room t w) → Fits n
   unfolding textFor
   fits-exact n met count =
       let within : n ≤ room = omega (arith, met-none room 0 (print (opened (suc room) t w)) met) in
       let enough = opened-enough n (suc room) t w (omega arith) in
-      let fits : firstMet n 0 (print (opened (suc room) t w)) ≡ 0 = met-enough room n 0 (print (opened (suc room) t w)) met (omega arith) in
+      let fits : firstMet n 0 (print (opened (suc room) t w)) ≡ nothing = met-enough room n 0 (print (opened (suc room) t w)) met (omega arith) in
       record {
         within = within;
         exact = record { met = sym (enough .met) ∙ fits; size = sym (ap length (enough .text fits)) ∙ sym count };
@@ -37,14 +37,12 @@ module _ (room : ℕ) (t : List ℕ) (w : ℕ) where
       }
 
   pub measured-bytes : (n : ℕ) → Measured.Bytes n ≡ measured room (textFor room t w) → Fits n
-  unfolding measuredBy
-  measured-bytes n h = go (eqb (firstMet room 0 (textFor room t w)) 0) (eqb (firstMet room 0 (textFor room t w)) 12) refl h
+  measured-bytes n h = go (firstMet room 0 (textFor room t w)) refl h
     where
-      go : (a b : Bool) → eqb (firstMet room 0 (textFor room t w)) 0 ≡ a
-          → Measured.Bytes n ≡ cond a (Measured.Bytes (length (textFor room t w))) (cond b Measured.TooDeep Measured.NoRoom) → Fits n
-      go true b e h = fits-exact n (eqb-true (firstMet room 0 (textFor room t w)) 0 e) (cc)
-      go false true e h = absurd (let z : _≡_ {A = ℕ} 0 1 = cc in omega arith)
-      go false false e h = absurd (let z : _≡_ {A = ℕ} 0 1 = cc in omega arith)
+      go : (m : Met) → firstMet room 0 (textFor room t w) ≡ m → Measured.Bytes n ≡ measuredBy m (textFor room t w) → Fits n
+      go nothing e h = fits-exact n e (cc)
+      go tooMany e h = absurd (let z : _≡_ {A = ℕ} 0 1 = cc in omega arith)
+      go noRoom e h = absurd (let z : _≡_ {A = ℕ} 0 1 = cc in omega arith)
 
 -- a part of n bytes at the front of a buffer, filled
 module _ (t : List ℕ) (w : ℕ) (old : List ℕ) (n : ℕ) (h : Measured.Bytes n ≡ measured (length old) (textFor (length old) t w)) where

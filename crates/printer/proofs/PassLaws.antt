@@ -10,13 +10,14 @@ use lib.Seq.{take-all, length-take-le}
 use borrow.Author.Tests.{ltb-true, ltb-false}
 use Rattle.base_ten.specs.Put.{Put}
 use Rattle.notation.specs.Brackets.{mostOpen}
+use Rattle.notation.proofs.BracketLaws.{many-met, no-room-met}
 use Rattle.machine.specs.Texts.{textFor}
 use Rattle.printer.specs.declared.Measured
 use Rattle.printer.specs.declared.Measured.{Measured}
 use Rattle.printer.specs.declared.walk.Piece.{Piece}
 use Rattle.printer.specs.declared.walk.Walk.{Walk}
 use Rattle.printer.specs.Pieces.{bytesOf}
-use Rattle.printer.specs.Measures.{measuredBy, measured, Exact}
+use Rattle.printer.specs.Measures.{measured, Exact}
 use Rattle.printer.specs.Walk.{firstStop, restsOf, itemsOf, Moved, Refused, Written, Measuring, Filling}
 use Rattle.printer.proofs.WrittenLaws.{written-none, written-more, written-without, written-too-deep, written-all}
 
@@ -31,19 +32,16 @@ module _ (room : ℕ) (t : List ℕ) (w : ℕ) where
   module _ (left : ℕ) (stop : Walk) (rests : List ℕ) (m : Measuring room t w left stop rests) where
     -- the text is measured, or what is met first
     pub measured-all : itemsOf stop rests ≡ [] → Measured.Bytes (room - left) ≡ measured room (textFor room t w)
-    unfolding measuredBy
     measured-all e =
         let all = written-all room t w (m .done) (stop .depth) (itemsOf stop rests) (m .written) e in
         let count : room - left ≡ length (textFor room t w) = omega (arith, m .count, ap length (all .1)) in
         rw (all .0, count)
 
     pub measured-deep : Refused t (stop .depth) (itemsOf stop rests) → Measured.TooDeep ≡ measured room (textFor room t w)
-    unfolding measuredBy
     measured-deep r = rw (written-too-deep room t w (m .done) (stop .depth) (itemsOf stop rests) (m .written) r)
 
     module _ (p : Piece) (after : Walk) (rests′ : List ℕ) (step : Moved t (stop .depth) (itemsOf stop rests) p after rests′) where
       pub measured-without : left < length (bytesOf p) → Measured.NoRoom ≡ measured room (textFor room t w)
-      unfolding measuredBy
       measured-without l =
           rw (written-without room t w (m .done) (stop .depth) (itemsOf stop rests) (m .written) p after rests′ step (omega (arith, m .count)))
 
@@ -72,7 +70,7 @@ module _ (n : ℕ) (t : List ℕ) (w : ℕ) (exact : Exact n t w) where
 
     -- the whole text fits, so nothing else is met
     pub never-deep : Refused t (stop .depth) (itemsOf stop rests) → ⊥
-    never-deep r = let met = written-too-deep n t w (take at part) (stop .depth) (itemsOf stop rests) (m .written) r in omega (arith, exact .met)
+    never-deep r = let met = written-too-deep n t w (take at part) (stop .depth) (itemsOf stop rests) (m .written) r in many-met (sym met ∙ exact .met)
 
     module _ (p : Piece) (after : Walk) (rests′ : List ℕ) (step : Moved t (stop .depth) (itemsOf stop rests) p after rests′) where
       pub filling-room : at + length (bytesOf p) ≤ n
@@ -82,7 +80,7 @@ module _ (n : ℕ) (t : List ℕ) (w : ℕ) (exact : Exact n t w) where
           go true e =
               let less : n - length (take at part) < length (bytesOf p) = rw filled (ltb-true (n - at) (length (bytesOf p)) e) in
               let met = written-without n t w (take at part) (stop .depth) (itemsOf stop rests) (m .written) p after rests′ step less in
-              absurd (omega (arith, exact .met))
+              absurd (no-room-met (sym met ∙ exact .met))
           go false e = omega (arith, ltb-false (n - at) (length (bytesOf p)) e, m .within)
 
       pub filling-more : (part′ : List ℕ) (at′ : ℕ) → Put part at (bytesOf p) part′ at′ → length part′ ≡ n → length rests′ ≡ mostOpen → Filling n t w part′ at′ after rests′

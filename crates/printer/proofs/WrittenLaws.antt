@@ -9,7 +9,7 @@ use lib.ListN.{length, take, length-append}
 use lib.Seq.{take-append-add, take-all}
 use borrow.Author.Tests.{ne-eqb}
 use Rattle.notation.specs.Grammar.{openByte}
-use Rattle.notation.specs.Brackets.{mostOpen, openAfter, opensTooMany, tooDeep, firstMet}
+use Rattle.notation.specs.Brackets.{mostOpen, openAfter, opensTooMany, tooDeep, nothing, tooMany, noRoom, firstMet}
 use Rattle.notation.specs.Parts.{element}
 use Rattle.notation.proofs.BracketLaws.{met-front, met-none}
 use Rattle.machine.specs.Texts.{textFor}
@@ -34,7 +34,7 @@ met-behind (b ∷ p) (suc room) n u h l =
     let less : suc room - suc (length p) ≡ room - length p = omega arith in
     rw (both .0, ne-eqb (suc room) 0 (λ z. omega arith), less) (met-behind p room (openAfter n b) u (both .1) (omega arith))
 
-pub met-without : (p : List ℕ) (room n : ℕ) (u : List ℕ) → tooDeep n p ≡ false → room < length p → firstMet room n (p ++ u) ≡ 13
+pub met-without : (p : List ℕ) (room n : ℕ) (u : List ℕ) → tooDeep n p ≡ false → room < length p → firstMet room n (p ++ u) ≡ noRoom
 unfolding tooDeep firstMet
 met-without [] room n u h l = absurd (omega arith)
 met-without (b ∷ p) zero n u h l = let both = neither (opensTooMany n b) (tooDeep (openAfter n b) p) h in rw (both .0)
@@ -42,7 +42,7 @@ met-without (b ∷ p) (suc room) n u h l =
     let both = neither (opensTooMany n b) (tooDeep (openAfter n b) p) h in
     rw (both .0, ne-eqb (suc room) 0 (λ z. omega arith)) (met-without p room (openAfter n b) u (both .1) (omega arith))
 
-met-bracket : (room : ℕ) (text : List ℕ) → take 1 text ≡ openByte ∷ [] → firstMet room mostOpen text ≡ 12
+met-bracket : (room : ℕ) (text : List ℕ) → take 1 text ≡ openByte ∷ [] → firstMet room mostOpen text ≡ tooMany
 unfolding firstMet opensTooMany
 met-bracket room [] e = absurd (let z : _≡_ {A = ℕ} 0 1 = cc in omega arith)
 met-bracket room (b ∷ bs) e = let same : b ≡ openByte = cc in rw same
@@ -86,23 +86,23 @@ module _ (room : ℕ) (t : List ℕ) (w : ℕ) where
               ∙ so .met;
         }
 
-    pub written-without : (p : Piece) (after : Walk) (rests : List ℕ) → Moved t n is p after rests → room - length done < length (bytesOf p) → firstMet room 0 (textFor room t w) ≡ 13
+    pub written-without : (p : Piece) (after : Walk) (rests : List ℕ) → Moved t n is p after rests → room - length done < length (bytesOf p) → firstMet room 0 (textFor room t w) ≡ noRoom
     written-without p after rests m l =
         sym (so .met)
         ∙ ap (firstMet (room - length done) n) (m .text (suc (room - length done)))
         ∙ met-front (room - length done) n (bytesOf p ++ ahead (suc (room - length done)) t (itemsOf after rests))
         ∙ met-without (bytesOf p) (room - length done) n (ahead (suc (room - length done)) t (itemsOf after rests)) (m .within) l
 
-    pub written-too-deep : Refused t n is → firstMet room 0 (textFor room t w) ≡ 12
+    pub written-too-deep : Refused t n is → firstMet room 0 (textFor room t w) ≡ tooMany
     written-too-deep r =
         sym (so .met)
         ∙ ap (λ (k : ℕ). firstMet (room - length done) k (ahead (suc (room - length done)) t is)) (r .full)
         ∙ met-bracket (room - length done) (ahead (suc (room - length done)) t is) (r .bracket (room - length done))
 
     -- nothing is left: all is written
-    pub written-all : is ≡ [] → (firstMet room 0 (textFor room t w) ≡ 0) × (done ≡ textFor room t w)
+    pub written-all : is ≡ [] → (firstMet room 0 (textFor room t w) ≡ nothing) × (done ≡ textFor room t w)
     unfolding firstMet
     written-all e =
         let none : ahead (suc (room - length done)) t is ≡ [] = rw e (ahead-none t (suc (room - length done))) in
-        let met : firstMet room 0 (textFor room t w) ≡ 0 = sym (so .met) ∙ rw none in
+        let met : firstMet room 0 (textFor room t w) ≡ nothing = sym (so .met) ∙ rw none in
         (met, sym (append-nil done) ∙ rw none at (so .text) ∙ take-all (suc room) (textFor room t w) (omega (arith, met-none room 0 (textFor room t w) met)))

@@ -1,25 +1,25 @@
 -- What measuring a text gives: its bytes where it fits, else what is met first.
 use mathlib.Core.Path.{_≡_}
-use mathlib.Core.Bool.{cond}
 use mathlib.Core.List.{List, _++_}
 use Prim.Native.Nat.{ℕ}
-use lib.Dec.{eqb}
 use lib.ListN.{length, drop}
-use Rattle.notation.specs.Brackets.{firstMet}
+use Rattle.notation.specs.Brackets.{Met, nothing, tooMany, noRoom, firstMet}
 use Rattle.machine.specs.Texts.{textFor}
 use Rattle.printer.specs.declared.Measured
 use Rattle.printer.specs.declared.Measured.{Measured}
 
--- by the refusal's number, 12 or 13
-unfoldable pub measuredBy : ℕ → List ℕ → Measured
-measuredBy met text = cond (eqb met 0) (Measured.Bytes (length text)) (cond (eqb met 12) Measured.TooDeep Measured.NoRoom)
+-- by what is met first
+abbrev pub measuredBy : Met → List ℕ → Measured
+measuredBy nothing text = Measured.Bytes (length text)
+measuredBy tooMany text = Measured.TooDeep
+measuredBy noRoom text = Measured.NoRoom
 
 abbrev pub measured : ℕ → List ℕ → Measured
 measured room text = measuredBy (firstMet room 0 text) text
 
 -- the text fits, and is just as long as the room
 pub record Exact (room : ℕ) (t : List ℕ) (w : ℕ) : Type 0 where
-  pub met : firstMet room 0 (textFor room t w) ≡ 0
+  pub met : firstMet room 0 (textFor room t w) ≡ nothing
   pub size : length (textFor room t w) ≡ room
 
 -- a buffer with the text at its front, by what was measured: what stands behind the text stands, and all of it where the text does not fit

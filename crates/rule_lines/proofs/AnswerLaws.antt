@@ -26,8 +26,8 @@ use Rattle.rule_lines.specs.Kept.{keptBytes, Keeps}
 use Rattle.rule_lines.proofs.TextLaws.{clean-reads, writes-back}
 
 -- what is written of a word that was read is the answer to its line
-pub puts-text : {w : ℕ} {t : List ℕ} {q : Queue} {out : List ℕ} {at : ℕ} {out′ : List ℕ} {end : ℕ} {part : List ℕ}
-    → TextHanded (store t q []) w mostAnswer part → Put out at (take mostAnswer part) out′ end → PutsText w t q out at out′ end
+pub puts-text : {w : ℕ} {t : List ℕ} {q : Queue} {out : List ℕ} {at : ℕ} {out′ : List ℕ} {end : ℕ} {buffer begin : ℕ × ℕ} {part : List ℕ}
+    → TextHanded (store t q []) w mostAnswer buffer begin part → Put out at (take mostAnswer part) out′ end → PutsText w t q out at out′ end
 puts-text {part = part} w put = record {
   within = omega (arith, put .ends, length-take mostAnswer part);
   told = λ line scratch b.

@@ -11,7 +11,7 @@ use Rattle.notation.specs.Trees.{Tree, pairs}
 use Rattle.notation.specs.Grammar.{mostText}
 use Rattle.notation.specs.Parse.{parse, Parsed, tree, none, isTree, meaning}
 use Rattle.notation.specs.Print.{print}
-use Rattle.notation.specs.Brackets.{tooDeep}
+use Rattle.notation.specs.Brackets.{tooDeep, nothing}
 use Rattle.notation.proofs.Theorems.{values-read, print-shallow}
 use Rattle.machine.specs.declared.Queue.{Queue}
 use Rattle.machine.specs.Range.{everyOf}
@@ -150,7 +150,7 @@ module _ {line : List ℕ} {w : ℕ} {t : List ℕ} {q : Queue} {scratch : List 
   written-tree : textFor room t w ≡ print (meaning (parse line))
   written-tree = printed-whole room t w (meaning (parse line)) (b .opens) (met-nothing room 0 (print (meaning (parse line))) (b .shallow) (omega (arith, b .fits)))
 
-  met-none : met room t w ≡ 0
+  met-none : met room t w ≡ nothing
   unfolding met
   met-none = rw written-tree (met-nothing room 0 (print (meaning (parse line))) (b .shallow) (omega (arith, b .fits)))
 

@@ -12,7 +12,7 @@ use Rattle.base_ten.specs.Bytes.{digitZero}
 use Rattle.base_ten.specs.Decimal.{digits, mostDigits, decimal}
 use Rattle.notation.specs.Trees.{Tree, nil, atom, pair, largestValue, Values, pairs}
 use Rattle.notation.specs.Print.{print, printRest}
-use Rattle.notation.specs.Brackets.{openAfter, opensTooMany, tooDeep, firstMet}
+use Rattle.notation.specs.Brackets.{openAfter, opensTooMany, tooDeep, nothing, firstMet}
 use Rattle.machine.proofs.Range.{or-false}
 
 -- a number below 10^k has k digits at most
@@ -51,7 +51,7 @@ mutual
   rest-length (atom v) h = simp length-append (omega (arith, value-digits v h))
   rest-length (pair a d) h = simp length-append (omega (arith, print-length a (h .0), rest-length d (h .1)))
 
-pub met-nothing : (room n : ℕ) (text : List ℕ) → tooDeep n text ≡ false → length text ≤ room → firstMet room n text ≡ 0
+pub met-nothing : (room n : ℕ) (text : List ℕ) → tooDeep n text ≡ false → length text ≤ room → firstMet room n text ≡ nothing
 unfolding tooDeep firstMet
 met-nothing room n [] h l = refl
 met-nothing zero n (b ∷ bs) h l = absurd (omega arith)

@@ -119,7 +119,7 @@ decided s (row r) h = inl h
 decided s step h = inl h
 decided s audit h = tt
 decided s (read text) h = inl h
-decided s (write w room) h = inl h
+decided s (write w room) h = tt
 
 -- so every call that keeps the promise leaves a sound store sound
 pub promise-whole : (s : Store) (call : Call) (r : Reply) (after : Store) → Promise s call r after → Whole (s .table) (s .queue)

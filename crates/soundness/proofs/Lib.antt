@@ -26,6 +26,7 @@ pub mod NameCounts
 pub mod Masks
 pub mod FreedCells
 pub mod StepSound
+pub mod RootsWhenTaken
 pub mod WhatWasReached
 pub mod SuspectCells
 pub mod LocalWay

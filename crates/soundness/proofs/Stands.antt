@@ -3,14 +3,15 @@ use mathlib.Core.Path.{_≡_, refl, ap, _∙_}
 use mathlib.Core.List.{List, []}
 use Prim.Native.Nat.{ℕ, suc, _*_}
 use native.Mathlib.Omega.{arith}
-use lib.ListN.{set, take}
+use lib.ListN.{take}
 use Rattle.machine.specs.Range.{matching}
 use Rattle.machine.specs.Words.{ceiling}
-use Rattle.machine.specs.Table.{cellCount, capacity, position, wordAt}
+use Rattle.machine.specs.Table.{cellCount, nameCount, capacity, position, wordAt, putWord}
 use Rattle.machine.specs.Queue.{packet, emptyQueue}
 use Rattle.machine.specs.Packets.{kindOf, cell, Change, changesOf, changes}
 use Rattle.machine.specs.Calls.{row, setLeft, store}
 use Rattle.machine.specs.Stages.{stage}
+use Rattle.machine.specs.Worked.{withWord}
 use Rattle.machine.specs.WrongAnswers.{crowded}
 use Rattle.machine.proofs.Questions.{shape-is}
 use Rattle.machine.proofs.ManyPointers.{crowded-sound, itself-accepted, itself-gives}
@@ -25,10 +26,10 @@ crowd = crowded 2047 0 2
 
 -- as its waiting packet names it
 abbrev named : List ℕ
-named = set crowd 8 3
+named = withWord crowd 1 nameCount 3
 
 named-counts : (capacity named ≡ 2048) × (wordAt named 0 cellCount ≡ suc (2 * 2047))
-unfolding capacity wordAt position crowded
+unfolding capacity wordAt putWord position crowded
 named-counts = (refl, refl)
 
 abbrev firstChanges : List Change
@@ -39,7 +40,7 @@ unfolding running changes changesOf kindOf matching
 counted = refl
 
 pub stands : Stands
-unfolding stage
+unfolding stage putWord position
 stands =
     let whole : Whole crowd emptyQueue = record { sound = crowded-sound 2047 2 (omega arith) (omega arith) (omega arith); arrays = arrays-empty } in
     let yes = itself-accepted 2047 2 (omega arith) (omega arith) (omega arith) [] (omega arith) in

@@ -23,7 +23,7 @@ use Rattle.machine.proofs.Ring.{length-waiting}
 use Rattle.machine.proofs.Questions.{shape-is}
 use Rattle.machine.proofs.RootsByCell.{Counted, sound-counted}
 use Rattle.machine.proofs.Replay.{replays-uses, replays-bound}
-use Rattle.soundness.specs.Untrimmed.{Lowers, ByItself, Untrimmed}
+use Rattle.soundness.specs.Untrimmed.{Lowers, ByItself, Untrimmed, NothingTrimmed}
 use Rattle.soundness.proofs.PacketKinds.{running, count-applied}
 use Rattle.soundness.proofs.Views.{shown, earlier, seen-undo, stages-within}
 use Rattle.soundness.proofs.Facts.{Facts, sound-facts, all-below}
@@ -197,7 +197,7 @@ module _ (t : List ℕ) (p : Packet) (ps : List Packet) (f : Facts t (p ∷ ps))
         freeing = λ i l. swept-enough (applyPacket t p) ps (packet-facts t p ps f) (packet-counted t p ps f c) i (rw (packet-capacity t p ps f) l);
       }
 
-pub untrimmed : (t : List ℕ) (q : Queue) (p : Packet) (ps : List Packet) → Sound t q → waiting q ≡ p ∷ ps → Untrimmed t p
+pub untrimmed : NothingTrimmed
 untrimmed t q p ps s e =
     untrimmed-facts t p ps (rw e at (sound-facts t q s)) (rw e at (sound-counted t q s))
     (omega (arith, ap length e, length-waiting q, shape-is t q (s .shape) .queue .count))

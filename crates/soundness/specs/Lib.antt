@@ -5,6 +5,7 @@ pub mod Untrimmed
 pub mod Links
 pub mod Whole
 pub mod TextRead
+pub mod RootsWhenTaken
 pub mod Variants
 pub mod Shortcuts
 pub mod EitherOrder

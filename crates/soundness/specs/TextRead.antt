@@ -9,7 +9,6 @@ use Rattle.machine.specs.Calls.{row, read, write, cons, value, text, Store}
 use Rattle.machine.specs.Texts.{buildBy, OpensOut}
 use Rattle.machine.specs.Questions.{firstNo, questions}
 use Rattle.machine.specs.Machine.{consed}
-use Rattle.machine.specs.Audit.{Sound}
 use Rattle.machine.specs.Promise.{Promise}
 use Rattle.soundness.specs.Whole.{Whole}
 
@@ -32,8 +31,8 @@ pub record SameTree (t : List ℕ) (w : ℕ) (u : List ℕ) (x : ℕ) : Type 0 w
   pub one : OpensOut t w tree
   pub other : OpensOut u x tree
 
--- A text written from a word of a sound store, read and accepted in any sound store, makes a word that opens out into the same tree: what the word opened
+-- A text written from a word of any store, read and accepted in any sound store, makes a word that opens out into the same tree: what the word opened
 -- out into when it was written; shared cells come back as copies.
 abbrev pub RoundTrip : Type 0
-RoundTrip = (s : Store) (w room : ℕ) (bytes : List ℕ) (s′ : Store) → Sound (s .table) (s .queue) → Promise s (write w room) (text bytes) s′
+RoundTrip = (s : Store) (w room : ℕ) (bytes : List ℕ) (s′ : Store) → Promise s (write w room) (text bytes) s′
     → (v : Store) (x : ℕ) (v′ : Store) → Whole (v .table) (v .queue) → Promise v (read bytes) (value x) v′ → SameTree (s .table) w (v′ .table) x

@@ -2,15 +2,17 @@
 use mathlib.Core.Path.{_≡_}
 use mathlib.Core.List.{List, _∷_}
 use Prim.Native.Nat.{ℕ, suc, _≤_, _<_}
-use lib.ListN.{set, drop}
+use lib.ListN.{drop}
 use Rattle.machine.specs.Range.{matching, occurrences}
 use Rattle.machine.specs.Words.{ceiling}
 use Rattle.machine.specs.Table.{rootCount, cellCount, nameCount, capacity, wordAt}
-use Rattle.machine.specs.Queue.{Packet, packet, emptyQueue, appended}
+use Rattle.machine.specs.declared.Queue.{Queue}
+use Rattle.machine.specs.Queue.{Packet, packet, emptyQueue, appended, waiting}
 use Rattle.machine.specs.Packets.{Kind, reads, makes, replaces, raises, lowers, unknown, kindOf, Counter, cell, Direction, plus, minus, Change, changes, names}
 use Rattle.machine.specs.Step.{counterWord, applyChanges, applyPacket, unreached}
 use Rattle.machine.specs.Audit.{Sound}
 use Rattle.machine.specs.Stages.{stage}
+use Rattle.machine.specs.Worked.{withWord}
 use Rattle.machine.specs.WrongAnswers.{crowded}
 use Rattle.machine.specs.Facts.{pointersOut}
 
@@ -46,7 +48,11 @@ pub record Untrimmed (t : List ℕ) (p : Packet) : Type 0 where
   -- and no cell has a count below the pointers to it that the freed cells hold
   pub freeing : (i : ℕ) → i < capacity t → pointersOut (applyPacket t p) (unreached (applyPacket t p)) (suc i) ≤ wordAt (applyPacket t p) i cellCount
 
+-- every step that takes a packet from a sound store. The proof is `untrimmed` in proofs/Untrimmed.
+abbrev pub NothingTrimmed : Type 0
+NothingTrimmed = (t : List ℕ) (q : Queue) (p : Packet) (ps : List Packet) → Sound t q → waiting q ≡ p ∷ ps → Untrimmed t p
+
 -- and a count does stand at 4,096: of 2,048 cells 4,095 fields point to the first, and a replace of it by itself waits, which names it three times
 pub record Stands : Type 0 where
-  pub sound : Sound (set (crowded 2047 0 2) 8 3) (appended emptyQueue (packet 3 1 1 1))
-  pub at-4096 : wordAt (stage (set (crowded 2047 0 2) 8 3) (packet 3 1 1 1) 2) 0 cellCount ≡ suc ceiling
+  pub sound : Sound (withWord (crowded 2047 0 2) 1 nameCount 3) (appended emptyQueue (packet 3 1 1 1))
+  pub at-4096 : wordAt (stage (withWord (crowded 2047 0 2) 1 nameCount 3) (packet 3 1 1 1) 2) 0 cellCount ≡ suc ceiling

@@ -25,5 +25,5 @@ module _ (t : List ℕ) (q : Queue) (w : ℕ) where
     buffer = p .buffer;
   }
 
-  pub hand-promise : (room : ℕ) (part : List ℕ) → Writes t q w room part → TextHanded (store t q []) w room part
-  hand-promise room part p = record { reply = replyTo t q w room; promise = own-reply room; filled = p .filled }
+  pub hand-promise : (room : ℕ) (buffer begin : ℕ × ℕ) (part : List ℕ) → Writes t q w room buffer begin part → TextHanded (store t q []) w room buffer begin part
+  hand-promise room buffer begin part p = record { reply = replyTo t q w room; promise = own-reply room; filled = p .filled; front = p .front }

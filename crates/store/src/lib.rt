@@ -97,7 +97,7 @@ pub fn put_text(table: &[u16], queue: Queue, word: u16, buffer: &mut [u8]) -> Le
 
 // The same: the part of the buffer that the text fills is handed back, an empty part where it is refused. `put_text` replies the refusal.
 pub fn write_text<'b>(table: &[u16], queue: Queue, word: u16, buffer: &'b mut [u8]) -> &'b mut [u8]
-    ensures { λ r. ⌜ TextHanded (store (now (table .entry)) queue []) word (length (now (buffer .entry))) (now r) ⌝ }
+    ensures { λ r. ⌜ TextHanded (store (now (table .entry)) queue []) word (length (now (buffer .entry))) (buffer .entry .ptr) (r .ptr) (now r) ⌝ }
 {
     writer::write_text(table, queue, word, buffer)
 }

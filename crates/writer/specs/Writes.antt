@@ -29,6 +29,7 @@ pub record Puts (t : List ℕ) (q : Queue) (w : ℕ) (old new : List ℕ) (answe
   pub told : TellsLength answer (replyTo t q w (length old))
   pub buffer : new ≡ filledPart (replyTo t q w (length old)) ++ drop (length (filledPart (replyTo t q w (length old)))) old
 
--- the part handed back is the text; where the writing is refused it is empty, which no text is
-pub record Writes (t : List ℕ) (q : Queue) (w room : ℕ) (part : List ℕ) : Type 0 where
+-- the part handed back begins where the buffer begins, and is the text; where the writing is refused it is empty, which no text is
+pub record Writes (t : List ℕ) (q : Queue) (w room : ℕ) (buffer begin : ℕ × ℕ) (part : List ℕ) : Type 0 where
   pub filled : part ≡ filledPart (replyTo t q w room)
+  pub front : begin ≡ buffer

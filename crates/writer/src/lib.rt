@@ -68,7 +68,7 @@ pub fn put_text(table: &[u16], queue: Queue, word: u16, buffer: &mut [u8]) -> Le
 
 // The same, and the part of the buffer that holds the text is handed back; where it is refused, an empty one.
 pub fn write_text<'b>(table: &[u16], queue: Queue, word: u16, buffer: &'b mut [u8]) -> &'b mut [u8]
-    ensures { λ r. ⌜ Writes (now (table .entry)) queue word (length (now (buffer .entry))) (now r) ⌝ }
+    ensures { λ r. ⌜ Writes (now (table .entry)) queue word (length (now (buffer .entry))) (buffer .entry .ptr) (r .ptr) (now r) ⌝ }
 {
     let answer = put_text(table, queue, word, buffer);
     match answer {

@@ -7,7 +7,7 @@ write-text-requires : tie.Need-write-text-requires
 write-text-requires c κs = search needs
 
 returns : tie.Need-returns
-returns c = hand-promise _ _ _ _ _ (c .write-text .ensures)
+returns c = hand-promise _ _ _ _ _ _ _ (c .write-text .ensures)
 
 pub write-text-spec : {M : Type 1} → statement M
 write-text-spec = tie.close (tie.spec write-text-requires returns)

@@ -29,13 +29,13 @@ returns c =
     let put = c .before .before .before .before .before .before in
     let i = put .before .before .before .before .args in
     let n = c .before .before .answer .given .0 .0 in
-    part-text (i .table .now) (i .queue) (i .word) (i .buffer .now) _ n (rw (c .before .before .answer .given .1) at (put .put-text .ensures))
+    part-text (i .table .now) (i .queue) (i .word) (i .buffer .now) _ n (i .buffer .ptr) (rw (c .before .before .answer .given .1) at (put .put-text .ensures))
 
 returns-2 : tie.Need-returns-2
 returns-2 c =
     let put = c .before .before .before .before .before in
     let i = put .before .before .before .before .args in
-    part-none (i .table .now) (i .queue) (i .word) (i .buffer .now) _ _ (rw (c .before .enum-told .given .1) at (put .put-text .ensures))
+    part-none (i .table .now) (i .queue) (i .word) (i .buffer .now) _ _ (i .buffer .ptr) (rw (c .before .enum-told .given .1) at (put .put-text .ensures))
 
 pub write-text-spec : {M : Type 1} → statement M
 write-text-spec =
