@@ -69,19 +69,16 @@ module _ (s : Store) (h : inRange (s .table) (s .queue) ≡ true) (n : ℕ) wher
   accepts l =
       rw (h, le-leb (length (spaced n)) mostText (omega (arith, length-spaced n)), parse-spaced n, shallow, storable, slots-enough, cells-enough)
 
-  refuses : mostText < n + 2 → noes (questions s (read (spaced n))) ≡ 11 ∷ []
+  pub refuses-spaced : mostText < n + 2 → noes (questions s (read (spaced n))) ≡ 11 ∷ []
   unfolding questions early late noes inNotation
-  refuses l =
+  refuses-spaced l =
       rw (h, lt-leb (length (spaced n)) mostText (omega (arith, length-spaced n)), shallow, storable, slots-enough, cells-enough)
 
-  pub read-spaced : n + 2 ≤ mostText → OnlyAnswer s (read (spaced n)) (value 0) s
+  pub only-reads : n + 2 ≤ mostText → OnlyAnswer s (read (spaced n)) (value 0) s
   unfolding accepted textRead buildBy
-  read-spaced l =
+  only-reads l =
       only-decided s (read (spaced n)) (outcome (value 0) s) (inr no-pairs)
       (machine-accepted s (read (spaced n)) (accepts l) ∙ rw (parse-spaced n))
 
-  pub too-long : mostText < n + 2 → noes (questions s (read (spaced n))) ≡ 11 ∷ []
-  too-long l = refuses l
-
-  pub too-long-only : mostText < n + 2 → OnlyAnswer s (read (spaced n)) (refused 11) s
-  too-long-only l = only-first s (read (spaced n)) 10 [] (inr no-pairs) (refuses l)
+  pub only-refuses : mostText < n + 2 → OnlyAnswer s (read (spaced n)) (refused 11) s
+  only-refuses l = only-first s (read (spaced n)) 10 [] (inr no-pairs) (refuses-spaced l)

@@ -1,6 +1,6 @@
 -- The table of wrong answers, by computation.
 use mathlib.Core.Path.{_≡_, refl, sym, _∙_}
-use mathlib.Core.Bool.{true, false}
+use mathlib.Core.Bool.{true≢false}
 use mathlib.Core.List.{List, _∷_}
 use Prim.Native.Nat.{ℕ, _≤_}
 use native.Mathlib.Omega.{arith}
@@ -20,7 +20,7 @@ use Rattle.machine.proofs.ManyPointers.{pointers-only}
 use Rattle.machine.proofs.PointerCeiling.{pointer-ceiling}
 use Rattle.machine.proofs.NilReads.{only-nil}
 use Rattle.machine.proofs.RingText.{ring-deep, ring-short}
-use Rattle.machine.proofs.TextBorders.{read-spaced, too-long, too-long-only}
+use Rattle.machine.proofs.TextBorders.{refuses-spaced, only-reads, only-refuses}
 use Rattle.machine.proofs.Kept.{machine-accepted}
 use Rattle.machine.proofs.OnlyAnswers.{isSound, isDecided, isSettled, computed, expected, only-decided, only-first, all-only}
 
@@ -33,13 +33,10 @@ most-made s h =
     asked : firstNo (questions s (fresh 4096)) ≡ 0
     asked = rw (le-leb (tableLength 4096) (length (s .table)) h)
 
-not-yes : false ≡ true → ⊥
-not-yes e = let z : _≡_ {A = ℕ} 0 1 = cc in omega arith
-
 pub on-damaged : OnDamaged
 unfolding computes computes-text numbers
 on-damaged = record {
-  step-refuses = λ n s′ p. not-yes (p .refusal n refl refl .0);
+  step-refuses = λ n s′ p. true≢false (sym (p .refusal n refl refl .0));
   row-refuses = λ n s′ p. p .refusal n refl refl .0;
   cons-refuses = λ n s′ p. p .refusal n refl refl .0;
   refused-stands = λ n s′ p. p .refusal n refl refl .1;
@@ -58,9 +55,9 @@ wrong-answers = record {
   first-no = only-first;
   nil-reads = λ s r e h. only-nil r e s h;
   fresh-most = most-made;
-  longest-text = λ s h. read-spaced s h 4094 (omega arith);
-  too-long-text = λ s h. too-long s h 4095 (omega arith);
-  too-long-refused = λ s h. too-long-only s h 4095 (omega arith);
+  longest-text = λ s h. only-reads s h 4094 (omega arith);
+  too-long-text = λ s h. refuses-spaced s h 4095 (omega arith);
+  too-long-refused = λ s h. only-refuses s h 4095 (omega arith);
   ring-deep = ring-deep;
   ring-short = ring-short;
   range = all-only table.range-entries refl;

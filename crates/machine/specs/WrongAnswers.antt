@@ -211,7 +211,7 @@ abbrev pub takenOut : Packet
 takenOut = packet 6 0 1 1
 
 pub record PointerCeiling : Type 0 where
-  -- 4,095 pointers at every stage pass
+  -- 4,095 pointers pass
   pub passes : pointersSound (crowded 2047 0 2) [] ≡ true
   -- 4,096 in the table as it stands
   pub last-stage : pointersSound (crowded 2047 1 2) (putIn ∷ []) ≡ false

@@ -1,7 +1,7 @@
 -- Rule text: no cons of a reading is refused, and what is written is read back as the same tree.
 use mathlib.Core.Path.{_≡_, refl, sym, ap, _∙_}
 use mathlib.Core.Logic.{inl}
-use mathlib.Core.Bool.{true, false, not}
+use mathlib.Core.Bool.{true, not, true≢false}
 use mathlib.Core.List.{List, [], _∷_}
 use Prim.Native.Nat.{ℕ, suc}
 use native.Mathlib.Omega.{arith}
@@ -31,9 +31,6 @@ pub record Written (s : Store) (w room : ℕ) (bytes : List ℕ) : Type 0 where
   pub is : bytes ≡ textFor room (s .table) w
   pub fits : firstMet room 0 (textFor room (s .table) w) ≡ nothing
 
-not-yes : false ≡ true → ⊥
-not-yes e = let z : _≡_ {A = ℕ} 0 1 = cc in omega arith
-
 nothing-met : (s : Store) (w room : ℕ) → firstNo (questions s (write w room)) ≡ 0 → firstMet room 0 (textFor room (s .table) w) ≡ nothing
 unfolding questions late met
 nothing-met s w room h =
@@ -43,8 +40,8 @@ nothing-met s w room h =
   where
     neither : (m : Met) → not (isTooMany m) ≡ true → not (isNoRoom m) ≡ true → m ≡ nothing
     neither nothing a b = refl
-    neither tooMany a b = absurd (not-yes a)
-    neither noRoom a b = absurd (not-yes b)
+    neither tooMany a b = absurd (true≢false (sym a))
+    neither noRoom a b = absurd (true≢false (sym b))
 
 same-text : (a b : List ℕ) → text a ≡ text b → a ≡ b
 same-text a b e = cc
