@@ -399,7 +399,7 @@ def count_rest():
 def counts():
     for count in (count_store_cases, count_session, count_load, count_rest):
         for document, pattern, numbers in count():
-            found = re.search(pattern, text_of(document))
+            found = re.search(pattern, re.sub(r"\n *", " ", text_of(document)))
             if not found:
                 yield f"{document}: not found: {pattern}"
                 continue

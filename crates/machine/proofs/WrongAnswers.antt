@@ -1,18 +1,20 @@
 -- The table of wrong answers, by computation.
-use mathlib.Core.Path.{_≡_, refl, sym, _∙_}
+use mathlib.Core.Path.{_≡_, refl, sym, ap, _∙_}
 use mathlib.Core.Bool.{true≢false}
-use mathlib.Core.List.{List, _∷_}
+use mathlib.Core.List.{List, [], _∷_}
 use Prim.Native.Nat.{ℕ, _≤_}
 use native.Mathlib.Omega.{arith}
 use lib.ListN.{length}
+use Rattle.base_ten.specs.Bytes.{ascii}
 use borrow.Author.Tests.{le-leb}
 use Rattle.machine.specs.Table.{tableLength, capacity}
 use Rattle.machine.specs.Queue.{emptyQueue}
-use Rattle.machine.specs.Calls.{fresh, value, Store, store, freshTable}
+use Rattle.machine.specs.Calls.{fresh, write, Reply, value, text, Store, store, freshTable}
 use Rattle.machine.specs.Step.{outcome}
 use Rattle.machine.specs.Questions.{firstNo, cellsInRange, longEnough, early, late, questions}
 use Rattle.machine.specs.Machine.{accepted}
-use Rattle.machine.specs.Promise.{Promise, numbers}
+use Rattle.machine.specs.Answers.{filledPart}
+use Rattle.machine.specs.Promise.{Promise, numbers, TextHanded}
 use Rattle.machine.specs.WrongAnswers as table
 use Rattle.machine.specs.WrongAnswers.{noes, OnlyAnswer, OnDamaged, WrongAnswers}
 use Rattle.machine.proofs.Computes.{computes, computes-text}
@@ -49,6 +51,11 @@ on-damaged = record {
     heads : {a b : ℕ} {u v : List ℕ} → a ∷ u ≡ b ∷ v → a ≡ b
     heads e = cc
 
+-- the part handed back is that of the only reply
+handed-part : {s : Store} {w room : ℕ} {r : Reply} {after : Store} → OnlyAnswer s (write w room) r after → (buffer begin : ℕ × ℕ) (part : List ℕ)
+    → TextHanded s w room buffer begin part → (begin ≡ buffer) × (part ≡ filledPart r)
+handed-part {s} only buffer begin part h = (h .front, h .filled ∙ ap filledPart (only (h .reply) s (h .promise) .0))
+
 pub wrong-answers : WrongAnswers
 unfolding computes computes-text noes isSound isDecided isSettled computed expected
 wrong-answers = record {
@@ -64,6 +71,8 @@ wrong-answers = record {
   skipped = all-only table.skipped-entries refl;
   damaged = all-only table.damaged-entries refl;
   on-damaged = on-damaged;
+  handed = handed-part (all-only (table.gives table.quiet (write 1 8) (text (ascii "(() . 7)")) table.quiet ∷ []) refl .0);
+  handed-none = handed-part (all-only (table.refuses table.quiet (write 1 7) 13 [] ∷ []) refl .0 .1);
   pointers = pointers-only;
   ceiling = pointer-ceiling;
   order = all-only table.order-entries refl;

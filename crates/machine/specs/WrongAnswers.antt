@@ -14,7 +14,7 @@ use Rattle.machine.specs.Calls.{Reply, value, refused, idle, applied, so
 use Rattle.machine.specs.Step.{named, cleared}
 use Rattle.machine.specs.Questions.{Question, inRange, questions}
 use Rattle.machine.specs.Audit.{rules, undoable, before, pointersSound}
-use Rattle.machine.specs.Promise.{Decided, Promise}
+use Rattle.machine.specs.Promise.{Decided, Promise, TextHanded}
 use Rattle.machine.specs.Worked.{tableOf, cellOf, withWord}
 use Rattle.machine.specs.Cases.{named-only}
 
@@ -86,7 +86,7 @@ abbrev full : Queue
 full = record { kinds = replicate slots 4; a = replicate slots 1; b = replicate slots 1; c = replicate slots 0; place = 0; count = slots }
 
 -- no packet waits; no slot is empty; the first free end is out of range
-abbrev quiet : Store
+abbrev pub quiet : Store
 quiet = lent held emptyQueue
 
 abbrev busy : Store
@@ -527,6 +527,9 @@ pub record WrongAnswers : Type 0 where
   pub skipped : AllOnly skipped-entries
   pub damaged : AllOnly damaged-entries
   pub on-damaged : OnDamaged
+  -- the part of a buffer of eight bytes that writing hands back: one that begins elsewhere, or has other bytes; of seven, where it is refused, one that is not empty
+  pub handed : (buffer begin : ℕ × ℕ) (part : List ℕ) → TextHanded quiet 1 8 buffer begin part → (begin ≡ buffer) × (part ≡ ascii "(() . 7)")
+  pub handed-none : (buffer begin : ℕ × ℕ) (part : List ℕ) → TextHanded quiet 1 7 buffer begin part → (begin ≡ buffer) × (part ≡ [])
   pub pointers : AllOnly pointer-entries
   pub ceiling : PointerCeiling
   pub order : AllOnly order-entries
