@@ -98,7 +98,8 @@ enum row_refusal {
     ROW_NOT_IN_NOTATION = 11,     /* the text is not in the notation, or has more than 4,096 bytes */
     ROW_TOO_DEEP = 12,            /* more than 32 brackets of the text are open together */
     ROW_BUFFER_TOO_SHORT = 13,    /* the text does not fit the buffer */
-    ROW_CLIPPED_READING = 14      /* an atom that was to be put into a cell has a value of 4,095 or more */
+    ROW_CLIPPED_READING = 14,     /* an atom that was to be put into a cell has a value of 4,095 or more */
+    ROW_SEAT_OUT_OF_RANGE = 15    /* a seat outside 1 to 600: the seat roster's, and no call here replies it */
 };
 
 /* The audit's rules S1 to S5, by what each is about. */

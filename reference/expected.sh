@@ -40,7 +40,7 @@ make() {
     shift
     case $kind in
     generate) "$reference" generate "$@" ;;
-    session | states | text | load | rules)
+    session | states | text | roster | load | rules)
         for input in "$@"; do
             "$reference" "$kind" <"$input" || return 1
         done

@@ -53,23 +53,29 @@ impl<'a> Reader<'a> {
         }
     }
 
-    /// The next line, or none at the end.
-    pub fn line(&mut self) -> io::Result<Option<Line>> {
+    /// The letter of the next line, or none at the end.
+    pub(crate) fn start(&mut self) -> Option<u8> {
         self.skip_space();
-        let Some(&letter) = self.text.get(self.next) else {
-            return Ok(None);
-        };
+        let &letter = self.text.get(self.next)?;
         self.next += 1;
         self.letter = letter;
         self.numbers.clear();
+        Some(letter)
+    }
+
+    /// The next line, or none at the end.
+    pub fn line(&mut self) -> io::Result<Option<Line>> {
+        let Some(letter) = self.start() else {
+            return Ok(None);
+        };
         Ok(Some(match letter {
             b'#' => {
                 self.skip_line();
                 Line::Title
             }
-            b'T' => Line::Lent(Lent::Table(self.runs()?)),
+            b'T' => Line::Lent(Lent::Table(self.runs(MAX_LENGTH)?)),
             b'Q' => Line::Lent(Lent::Queue(Box::new(self.queue()?))),
-            b'S' => Line::Lent(Lent::Scratch(self.runs()?)),
+            b'S' => Line::Lent(Lent::Scratch(self.runs(MAX_LENGTH)?)),
             b'W' => Line::Lent(Lent::Word {
                 index: self.number(usize::MAX)?,
                 word: self.word()?,
@@ -126,7 +132,7 @@ impl<'a> Reader<'a> {
         }
     }
 
-    fn skip_line(&mut self) {
+    pub(crate) fn skip_line(&mut self) {
         while !matches!(self.text.get(self.next), None | Some(b'\n')) {
             self.next += 1;
         }
@@ -152,13 +158,13 @@ impl<'a> Reader<'a> {
         Ok(value)
     }
 
-    fn word(&mut self) -> io::Result<u16> {
+    pub(crate) fn word(&mut self) -> io::Result<u16> {
         Ok(self.number(u16::MAX as usize)? as u16)
     }
 
-    /// Length, number of runs, then each run's length and word.
-    fn runs(&mut self) -> io::Result<Vec<u16>> {
-        let length = self.number(MAX_LENGTH)?;
+    /// Length, at most the longest, number of runs, then each run's length and word.
+    pub(crate) fn runs(&mut self, longest: usize) -> io::Result<Vec<u16>> {
+        let length = self.number(longest)?;
         let runs = self.number(length)?;
         let mut words = Vec::with_capacity(length);
         for _ in 0..runs {
@@ -173,7 +179,7 @@ impl<'a> Reader<'a> {
     }
 
     /// Place, count, number of slots given, then slot, kind, a, b, c of each.
-    fn queue(&mut self) -> io::Result<Queue> {
+    pub(crate) fn queue(&mut self) -> io::Result<Queue> {
         let mut queue = Queue::empty();
         queue.place = self.word()?;
         queue.count = self.word()?;
@@ -267,7 +273,12 @@ pub fn write_text_call(output: &mut impl Write, call: &TextCall, brief: bool) ->
 /// The T, Q and S lines of a store.
 pub fn write_store(output: &mut impl Write, store: &Store) -> io::Result<()> {
     write_runs(output, 'T', &store.table)?;
-    let queue = &store.queue;
+    write_queue(output, &store.queue)?;
+    write_runs(output, 'S', &store.scratch)
+}
+
+/// The Q line of a queue.
+pub fn write_queue(output: &mut impl Write, queue: &Queue) -> io::Result<()> {
     let filled = || (0..Queue::SLOTS).filter(|&i| queue.slot(i) != Packet::ZERO);
     write!(
         output,
@@ -280,8 +291,7 @@ pub fn write_store(output: &mut impl Write, store: &Store) -> io::Result<()> {
         let Packet { kind, a, b, c } = queue.slot(i);
         write!(output, " {i} {kind} {a} {b} {c}")?;
     }
-    writeln!(output)?;
-    write_runs(output, 'S', &store.scratch)
+    writeln!(output)
 }
 
 /// The F line of a buffer.
@@ -290,7 +300,8 @@ pub fn write_buffer(output: &mut impl Write, buffer: &[u8]) -> io::Result<()> {
     write_runs(output, 'F', &bytes)
 }
 
-fn write_runs(output: &mut impl Write, letter: char, words: &[u16]) -> io::Result<()> {
+/// The line of a table, a scratch or a buffer.
+pub fn write_runs(output: &mut impl Write, letter: char, words: &[u16]) -> io::Result<()> {
     let runs = || words.chunk_by(|a, b| a == b);
     write!(output, "{letter} {} {}", words.len(), runs().count())?;
     for run in runs() {

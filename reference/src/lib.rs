@@ -1,8 +1,9 @@
 //! The reference machine of the row controller's cell store, written from the
 //! papers alone: table, packet queue, row calls, collector step, audit, the
 //! session program, the load program (request A2 of document 02), rule text in
-//! and out (A4), a runner for lists of stores, and generators. Document 01 is here
-//! what requests A1, A3, A5 and A6 make of it.
+//! and out (A4), a runner for lists of stores, the seat roster (A7) as a plain list
+//! with a runner of its own, and generators. Document 01 is here what requests A1,
+//! A3, A5 and A6 make of it.
 
 pub mod annotate;
 pub mod audit;
@@ -16,6 +17,7 @@ pub mod naming;
 pub mod notation;
 pub mod question;
 pub mod queue;
+pub mod roster;
 pub mod row;
 pub mod rule_text;
 pub mod rules;

@@ -2,10 +2,10 @@ use std::io::{self, BufReader, BufWriter};
 use std::process::ExitCode;
 
 use reference::annotate::{self, Codes};
-use reference::{generate, load, rules, session, states};
+use reference::{generate, load, roster, rules, session, states};
 
 const USAGE: &str =
-    "usage: reference session | load | rules | states | text | annotate [CODES] | generate SEED ...";
+    "usage: reference session | load | rules | states | text | roster | annotate [CODES] | generate SEED ...";
 const BUFFER: usize = 1 << 16;
 
 fn main() -> ExitCode {
@@ -19,6 +19,7 @@ fn main() -> ExitCode {
         ["rules"] => rules::run(input, output),
         // One runner serves both: `text` only says what a list is for.
         ["states"] | ["text"] => states::run(input, output),
+        ["roster"] => roster::run(input, output),
         ["annotate"] => annotate::run(Codes::ALL, input, output),
         ["annotate", codes] => match Codes::parse(codes) {
             Some(codes) => annotate::run(codes, input, output),

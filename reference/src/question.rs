@@ -1,5 +1,6 @@
 //! The questions asked before a call. The first "no" is the refusal. Questions 11
-//! to 13 (A4) are asked in `rule_text`, which asks 14 (A5) from here.
+//! to 13 (A4) are asked in `rule_text`, which asks 14 (A5) from here; the roster's
+//! (A7) are asked in `roster`.
 
 use crate::queue::Queue;
 use crate::table::*;
@@ -24,6 +25,8 @@ pub enum Refusal {
     Buffer = 13,
     /// A clipped reading that would be stored.
     Clipped = 14,
+    /// A seat outside 1 to 600.
+    Seat = 15,
 }
 
 fn ask(yes: bool, refusal: Refusal) -> Result<(), Refusal> {

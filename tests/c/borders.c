@@ -1,6 +1,6 @@
 /*
- * Each number that the header names, met by the library: a constant at its border and one past it, and each tag, refusal,
- * rule and kind by a call that must reply it. The cases are those of document 01 and of the requests A4, A5 and A6.
+ * Each number that the header names, met by the library: a constant at its border and one past it, and each tag, refusal
+ * (but the seat roster's), rule and kind by a call that must reply it. The cases are those of document 01 and of the requests A4, A5 and A6.
  */
 #include <stdio.h>
 #include <stdlib.h>

@@ -3,7 +3,7 @@ use mathlib.Core.Path.{_≡_, sym, ap, _∙_}
 use Prim.Native.Nat.{ℕ, _<_}
 use native.Mathlib.Omega.{arith}
 use Rattle.machine.specs.declared.Refusal.{Refusal}
-use Rattle.machine.specs.declared.Refusal.the-variants.{StoreOutOfRange, ScratchTooShort, NumberOutOfRange, IllegalWord, NotACell, NotHeld, QueueFull, NoFreeCell, HeldCountTooHigh, TooManyPointers, NotInNotation, TooDeep, BufferTooShort, ClippedReading}
+use Rattle.machine.specs.declared.Refusal.the-variants.{StoreOutOfRange, ScratchTooShort, NumberOutOfRange, IllegalWord, NotACell, NotHeld, QueueFull, NoFreeCell, HeldCountTooHigh, TooManyPointers, NotInNotation, TooDeep, BufferTooShort, ClippedReading, SeatOutOfRange}
 use Rattle.machine.specs.declared.Asked
 use Rattle.machine.specs.declared.Asked.{Asked}
 use Rattle.machine.specs.Answers.{refusalNumber, askedNumber}
@@ -23,6 +23,7 @@ refusal-some NotInNotation = omega arith
 refusal-some TooDeep = omega arith
 refusal-some BufferTooShort = omega arith
 refusal-some ClippedReading = omega arith
+refusal-some SeatOutOfRange = omega arith
 
 pub asked-no : {r : Asked} {f : Refusal} {n : ℕ} → askedNumber r ≡ n → r ≡ Asked.No f → refusalNumber f ≡ n
 asked-no h e = sym (ap askedNumber e) ∙ h

@@ -136,6 +136,7 @@ pub enum Refusal {
     TooDeep,
     BufferTooShort,
     ClippedReading,
+    SeatOutOfRange,
 }
 
 impl Refusal {
@@ -157,6 +158,7 @@ impl Refusal {
             Refusal::TooDeep => 12,
             Refusal::BufferTooShort => 13,
             Refusal::ClippedReading => 14,
+            Refusal::SeatOutOfRange => 15,
         }
     }
 }

@@ -1,5 +1,5 @@
-//! Generators of sessions and of lists for `reference states`; README.md
-//! describes their arguments.
+//! Generators of sessions and of lists for `reference states` and `reference
+//! roster`; README.md describes their arguments.
 
 use std::io::{self, Write};
 
@@ -14,6 +14,7 @@ pub mod named;
 pub mod recount;
 pub mod rings;
 pub mod rng;
+pub mod roster;
 pub mod rows;
 pub mod session;
 pub mod sound;
@@ -25,6 +26,7 @@ use rng::Rng;
 
 const USAGE: &str = "usage: reference generate SEED session STYLE CELLS LINES\n\
                      or:    reference generate SEED states LIST [CASES]\n\
+                     or:    reference generate SEED roster LIST [CASES]\n\
                      or:    reference generate SEED rules LINES";
 
 pub fn run(arguments: &[&str], mut output: impl Write) -> io::Result<()> {
@@ -43,6 +45,11 @@ pub fn run(arguments: &[&str], mut output: impl Write) -> io::Result<()> {
         ["states", name, cases] => {
             let cases = number(cases)? as usize;
             write_list(&mut rng, name, cases, &mut output)?;
+        }
+        ["roster", name] => roster::write_list(&mut rng, name, 50, &mut output)?,
+        ["roster", name, cases] => {
+            let cases = number(cases)? as usize;
+            roster::write_list(&mut rng, name, cases, &mut output)?;
         }
         _ => return Err(usage(USAGE)),
     }

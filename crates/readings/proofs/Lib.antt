@@ -1,0 +1,2 @@
+-- That the worked lists hold.
+pub mod Cases
