@@ -61,11 +61,11 @@ class Drawing:
 
 
 def crates():
-    d = Drawing(1235, 970)
+    d = Drawing(1445, 970)
     # bottom
     d.box("base_ten", 20, 872, 350, 46, "code", ["base_ten", "runs of bytes, numbers in base ten"])
     d.box("notation", 200, 780, 170, 62, "definition", ["notation", "rule text: grammar,", "parse, print (no code)"])
-    d.box("machine", 395, 780, 820, 62, "definition", ["machine", "declared types; in specs/ the whole machine, the promise, the worked cases; in proofs/ their laws"])
+    d.box("machine", 395, 780, 1025, 62, "definition", ["machine", "declared types; in specs/ the whole machine, the promise, the worked cases; in proofs/ their laws"])
     # leaves
     d.box("cells", 385, 695, 220, 50, "code", ["cells", "header, fields, counts, state"])
     d.box("queue", 630, 695, 220, 50, "code", ["queue", "the ring; waiting changes"])
@@ -110,6 +110,14 @@ def crates():
     d.box("state_lines", 1055, 380, 160, 365, "test", ["state_lines", "reads the reference's", "lists, writes replies", "and stores"])
     d.box("c_calls", 750, 30, 160, 48, "test", ["c_calls", "operands by place"])
     d.box("reference", 940, 30, 275, 48, "plain", ["reference", "the same machine in Rust, from the papers"], dashed=True)
+
+    # the roster
+    d.box("roster_cases", 1240, 30, 180, 48, "test", ["roster_cases", "program: the roster's calls"])
+    d.box("roster", 1240, 110, 180, 52, "face", ["roster", "four calls, one promise"])
+    d.box("roster_changes", 1240, 185, 180, 36, "code", ["roster_changes"])
+    d.box("roster_list", 1240, 241, 180, 52, "code", ["roster_list", "the list, walked along"])
+    d.box("resting", 1240, 380, 180, 150, "theorem", ["resting", "a row call with a", "step after it", "", "(no code)"])
+    d.box("readings", 1240, 610, 180, 135, "definition", ["readings", "the plain list of", "seat and reading", "", "(knows no cells)"])
 
     d.down("session", "session_lines")
     d.down("load", "load_lines")
@@ -173,10 +181,19 @@ def crates():
     d.line([(850, 484), (858, 484), (858, 562), (852, 562)])
     d.line([(710, 560), (687, 560)])
     d.down("questions", "cells")
-    d.down("cells", "machine", 0.5, 0.12195)
-    d.down("queue", "machine", 0.5, 0.42073)
-    d.down("soundness", "machine", 0.5, 0.67683)
-    d.down("state_lines", "machine", 0.5, 0.90244)
+    d.down("cells", "machine", 0.5, 0.09756)
+    d.down("queue", "machine", 0.5, 0.33658)
+    d.down("soundness", "machine", 0.5, 0.54146)
+    d.down("state_lines", "machine", 0.5, 0.72195)
+    # the roster: on the store's calls, on theorems about whoever keeps the promise, and on its own definition
+    d.down("roster_cases", "roster")
+    d.down("roster", "roster_changes")
+    d.down("roster_changes", "roster_list")
+    d.down("roster_list", "resting")
+    d.line([(1240, 258), (1010, 258), (1010, 288)])
+    d.line([(1240, 400), (1228, 400), (1228, 362), (1033, 362), (1033, 400), (1027, 400)])
+    d.line([(1420, 267), (1433, 267), (1433, 677), (1422, 677)])
+    d.down("readings", "machine", 0.5, 0.9122)
     # line_text: on the machine, as the printer, and on base_ten
     d.line([(102, 745), (102, 762), (420, 762), (420, 778)])
     d.line([(60, 745), (60, 870)])

@@ -14,6 +14,7 @@ UNNAMED = {
     'c_store': REPLIES,
     'session_lines': REPLIES,
     'load_lines': REPLIES,
+    'roster_cases': {'calls': REPLIES['calls']},
     'roster_list': REPLIES,
     'rule_lines': REPLIES,
     'store_cases': {'collector': REPLIES['collector']},

@@ -381,6 +381,15 @@ def count_load():
     yield "docs/ASSUMPTIONS.md", r"the listings of (\S+) inputs of the load program", [inputs]
 
 
+def count_roster():
+    calls = [line for line in lines_of("crates/roster_cases/stdin") if line[:2] in ("R ", "U ")]
+    replies = Counter(" ".join(line.split(" ")[4:]) for line in lines_of("crates/roster_cases/stdout") if line[:2] in ("R ", "U "))
+    yield "docs/TRACE.md", r"`roster_cases` makes (\S+) calls", [len(calls)]
+    yield "docs/TRACE.md", r"at its borders, (\S+) of them 15, (\S+) of them 8", [replies["NO 15"], replies["NO 8"]]
+    yield "docs/TRACE.md", r"`roster_cases`: (\S+) calls on such stores", [replies["UNDECIDED"]]
+    yield "docs/ASSUMPTIONS.md", r"those of the seat roster over (\S+) calls", [len(calls)]
+
+
 def count_rest():
     crates = [line for line in lines_of("crates.txt") if re.match(r"\w+:", line)]
     cases = text_of("crates/notation/specs/Cases.antt")
@@ -397,7 +406,7 @@ def count_rest():
 
 
 def counts():
-    for count in (count_store_cases, count_session, count_load, count_rest):
+    for count in (count_store_cases, count_session, count_load, count_roster, count_rest):
         for document, pattern, numbers in count():
             found = re.search(pattern, re.sub(r"\n *", " ", text_of(document)))
             if not found:

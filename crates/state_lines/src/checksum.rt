@@ -47,7 +47,7 @@ fn mix_slots(sum: u64, queue: Queue) -> u64
     s
 }
 
-pub fn checksum(table: &[u16], queue: Queue, scratch: &[u16]) -> u64
+pub fn checksum_of(table: &[u16], queue: Queue, scratch: &[u16]) -> u64
     ensures { λ r. ⌜ r < modulus ⌝ }
 {
     let s = mix_words(mix(0, table.len() as u64), table);

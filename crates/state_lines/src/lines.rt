@@ -7,7 +7,7 @@ use crate::runs::expand;
 use machine::Queue;
 ghost use mathlib.Core.Path.{_≡_};
 ghost use Prim.Native.Nat.{_<_, _≤_};
-ghost use lib.ListN.{length};
+ghost use lib.ListN.{length, getD};
 ghost use Rattle.state_lines.specs.Sizes.{Fits};
 
 // The queue, and how many words at the front of two arrays are the table and the scratch.
@@ -17,8 +17,8 @@ pub struct Store {
     pub queue: Queue,
 }
 
-// A call by its letter, C, B or U, its code and its operands: of reading a text p is its length, of writing one p, q and r are the word, the room and the
-// byte that the buffer is filled with before.
+// A call by its letter, its code and its operands: of reading a text p is its length, of writing one p, q and r are the word, the room and the byte that
+// the buffer is filled with before.
 pub struct Call {
     pub letter: u8,
     pub code: u16,
@@ -47,7 +47,7 @@ fn put_word(line: &[u16], table: &mut [u16; TABLE]) {
     }
 }
 
-// The store after a line that is no call; one with a letter that has no meaning here is a title.
+// The store after a line that is no call; one with a letter that has no meaning here, such as a title, changes nothing.
 pub fn changed(
     letter: u8,
     line: &[u16],
@@ -86,7 +86,9 @@ pub fn changed(
 }
 
 // The number at a place of a line, 0 where it has fewer.
-fn number_at(line: &[u16], i: usize) -> u16 {
+pub fn number_at(line: &[u16], i: usize) -> u16
+    ensures { λ r. ⌜ r ≡ getD (now (line .entry)) i 0 ⌝ }
+{
     if i < line.len() {
         return line[i];
     }

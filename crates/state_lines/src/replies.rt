@@ -1,12 +1,12 @@
 // A call's answer, as the paper's reply and as text.
-use crate::checksum::checksum;
+use crate::checksum::checksum_of;
 use crate::lines::Call;
 use crate::output::put_name;
 use crate::output::put_number;
 use crate::output::put_word;
 use crate::queue::put_queue;
-use crate::runs::put_runs;
 use crate::runs::widen;
+use crate::runs::write_runs;
 use machine::AuditAnswer;
 use machine::FreshAnswer;
 use machine::LengthAnswer;
@@ -100,30 +100,35 @@ const READ: u16 = 10;
 
 const WRITE: u16 = 11;
 
-fn put_call(call: Call) {
+// Writes a call's line up to its reply. Gives how many numbers it has.
+pub fn write_operands(call: Call) -> usize
+    ensures { λ r. ⌜ (2 ≤ r) × (r ≤ 4) ⌝ }
+{
     let letter = [call.letter];
     put_name(&letter);
     put_word(call.code);
     put_word(call.p);
     if call.code == READ {
-        return;
+        return 2;
     }
     put_word(call.q);
     if call.code == WRITE {
-        put_word(call.r)
+        put_word(call.r);
+        return 4;
     }
+    3
 }
 
 fn put_store(table: &[u16], queue: Queue, scratch: &[u16]) {
-    put_runs(b"\nT", table);
+    write_runs(b"\nT", table);
     put_queue(queue);
-    put_runs(b"\nS", scratch);
+    write_runs(b"\nS", scratch);
     put_name(b"\n")
 }
 
 fn put_checksum(table: &[u16], queue: Queue, scratch: &[u16]) {
     put_name(b"\nH");
-    put_number(checksum(table, queue, scratch));
+    put_number(checksum_of(table, queue, scratch));
     put_name(b"\n")
 }
 
@@ -132,7 +137,7 @@ fn put_checksum(table: &[u16], queue: Queue, scratch: &[u16]) {
 pub fn write_call(call: Call, reply: Reply, table: &[u16], queue: Queue, scratch: &[u16]) -> usize
     ensures { λ r. ⌜ (0 < r) × (r ≤ 4) ⌝ }
 {
-    put_call(call);
+    write_operands(call);
     if call.letter == b'U' {
         put_name(b" UNDECIDED\n");
         return 1;
@@ -149,7 +154,7 @@ pub fn write_call(call: Call, reply: Reply, table: &[u16], queue: Queue, scratch
 fn put_front(words: &[u16], n: usize)
     requires { ⌜ n ≤ length (now words) ⌝ }
 {
-    put_runs(b"F", &words[..n]);
+    write_runs(b"F", &words[..n]);
     put_name(b"\n")
 }
 

@@ -50,7 +50,9 @@ fn run_end(words: &[u16], from: usize, v: u16) -> usize
     i
 }
 
-fn count_runs(words: &[u16]) -> usize {
+fn count_runs(words: &[u16]) -> usize
+    ensures { λ r. ⌜ r ≤ length (now (words .entry)) ⌝ }
+{
     let mut n: usize = 0;
     let mut i: usize = 0;
     while i < words.len() {
@@ -74,11 +76,16 @@ fn put_each(words: &[u16]) {
     }
 }
 
-pub fn put_runs(name: &[u8], words: &[u16]) {
+// Writes a name and words as runs. Gives the number of runs.
+pub fn write_runs(name: &[u8], words: &[u16]) -> usize
+    ensures { λ r. ⌜ r ≤ length (now (words .entry)) ⌝ }
+{
+    let n = count_runs(words);
     put_name(name);
     put_number(words.len() as u64);
-    put_number(count_runs(words) as u64);
-    put_each(words)
+    put_number(n as u64);
+    put_each(words);
+    n
 }
 
 fn word_of(b: u8) -> u16 {

@@ -1,0 +1,2 @@
+-- What the test program tells of a store.
+pub mod Figures
