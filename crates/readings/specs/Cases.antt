@@ -1,10 +1,18 @@
--- Worked lists of roster calls, as one table: C, calls, and the reply to each, on a list that begins empty. That the table holds is `cases` in proofs/Cases.
+-- Worked lists of roster calls as one table: C, calls, and the reply to each, on a list that begins empty; and calls with their questions as another. That
+-- they hold is `cases`, `questions` and `codes` in proofs/Cases.
 use mathlib.Core.Path.{_≡_}
 use mathlib.Core.List.{List, [], _∷_}
 use Prim.Native.Nat.{ℕ}
+use lib.ListN.{replicate}
+use Rattle.machine.specs.declared.Refusal.the-variants.{SeatOutOfRange}
+use Rattle.machine.specs.Table.{capacity, tableLength, scratchWords}
+use Rattle.machine.specs.Queue.{emptyQueue}
+use Rattle.machine.specs.Calls.{Store, store, freshTable}
+use Rattle.machine.specs.Questions.{firstNo}
+use Rattle.readings.specs.declared.RosterAnswer.the-variants.{Done, Absent, Refused}
 use Rattle.readings.specs.Readings.{Entry}
-use Rattle.readings.specs.Calls.{RosterCall, set, lookUp, remove, count, RosterReply, value, absent, refused}
-use Rattle.readings.specs.Answers.{answered}
+use Rattle.readings.specs.Calls.{RosterCall, set, lookUp, remove, count, RosterReply, value, absent, refused, earlyRoster}
+use Rattle.readings.specs.Answers.{answered, refusedOr, rosterReply}
 
 -- the replies to calls that pass the early questions
 unfoldable pub replies : ℕ → List Entry → List RosterCall → List RosterReply
@@ -44,3 +52,59 @@ worked =
     ∷ works 4 (set 7 120 ∷ set 600 4094 ∷ set 1 5 ∷ set 7 121 ∷ count 121 ∷ count 122 ∷ lookUp 1 ∷ remove 600 ∷ set 1 5 ∷ lookUp 7 ∷ [])
     (value 0 ∷ value 0 ∷ refused 8 ∷ value 0 ∷ value 2 ∷ value 1 ∷ absent ∷ value 0 ∷ value 0 ∷ value 121 ∷ [])
     ∷ []
+
+-- the reply to a call, its early questions asked first, where the plain list is empty
+unfoldable pub asked : Store → RosterCall → RosterReply
+asked s call = refusedOr (firstNo (earlyRoster s call)) [] (answered (capacity (s .table)) [] call) .reply
+
+-- a table of zeros; a new store of one cell, lent no scratch, and lent enough
+abbrev unmade : Store
+unmade = store (replicate (tableLength 1) 0) emptyQueue []
+
+abbrev short : Store
+short = store (freshTable 1 (replicate (tableLength 1) 0)) emptyQueue []
+
+abbrev ready : Store
+ready = store (freshTable 1 (replicate (tableLength 1) 0)) emptyQueue (replicate (scratchWords 1) 7)
+
+pub record Asking : Type 0 where
+  pub store : Store
+  pub call : RosterCall
+  pub expected : RosterReply
+
+abbrev asks : Store → RosterCall → RosterReply → Asking
+asks s call r = record { store = s; call = call; expected = r }
+
+abbrev pub Answered : List Asking → Type 0
+Answered [] = Unit {0}
+Answered (k ∷ ks) = (asked (k .store) (k .call) ≡ k .expected) × Answered ks
+
+abbrev pub questioned : List Asking
+questioned =
+    -- 15 before 1
+    asks unmade (lookUp 0) (refused 15)
+    ∷ asks unmade (remove 601) (refused 15)
+    ∷ asks unmade (set 0 65535) (refused 15)
+    -- 1 before 4, and of a count first
+    ∷ asks unmade (lookUp 1) (refused 1)
+    ∷ asks unmade (set 600 65535) (refused 1)
+    ∷ asks unmade (count 0) (refused 1)
+    -- 2 before 4
+    ∷ asks short (set 601 65535) (refused 15)
+    ∷ asks short (remove 600) (refused 2)
+    ∷ asks short (set 1 65535) (refused 2)
+    ∷ asks short (count 65535) (refused 2)
+    -- 4 and 14 at their borders, before 8
+    ∷ asks ready (set 600 65535) (refused 4)
+    ∷ asks ready (set 600 32768) (refused 4)
+    ∷ asks ready (set 600 32767) (refused 14)
+    ∷ asks ready (set 1 4095) (refused 14)
+    ∷ asks ready (set 1 4094) (refused 8)
+    ∷ asks ready (lookUp 601) (refused 15)
+    ∷ asks ready (lookUp 600) absent
+    ∷ asks ready (count 0) (value 0)
+    ∷ []
+
+-- the code's answers
+abbrev pub Coded : Type 0
+Coded = (rosterReply (Done 7) ≡ value 7) × (rosterReply Absent ≡ absent) × (rosterReply (Refused SeatOutOfRange) ≡ refused 15)
