@@ -1,8 +1,10 @@
 #!/bin/sh
 # The session program and the load program against the reference on the same inputs, all built for release, in one run: million lines or calls a second
-# and the ratio. At the end calls of the store from C against the same calls inside a Rattle program.
+# and the ratio. At the end calls of the store from C against the same calls inside a Rattle program, and the seat roster's calls beside those on a plain
+# array.
 # Usage: bench/run.sh [PROGRAM...]: further programs that do the session program's job get a column each, in the order given.
 #        bench/run.sh --from-c: the calls from C alone.
+#        bench/run.sh --roster: the seat roster alone.
 set -eu
 cd "$(dirname "$0")/.."
 work=$(mktemp -d)
@@ -174,10 +176,82 @@ measure_from_c() {
         $2 != "slow" && (!($1 in best) || $2 < best[$1]) { best[$1] = $2 }
         END { printf "%s %.1f | %.1f | %.1f |\n", row, 1000 * best[1] / n, 1000 * best[2] / n, 1000 * (best[1] - best[2]) / n }' "$work/spent"
 }
-if [ "${1-}" = --from-c ]; then
+
+# The seat roster: lists in the format of `reference roster`. Seat k has the reading 5k. A new seat comes first in the list, so that seat 1, set first, is
+# the last of it.
+seats() { # C N
+    awk -v c="$1" -v n="$2" 'BEGIN {
+        w = 3 + 6 * c
+        print "T " w " 1 " w " 0"; print "S " c " 1 " c " 0"; print "U 0 " c " 0"
+        for (k = 1; k <= n; k++) print "U 1 " k " " 5 * k
+    }'
+}
+# So many calls of one kind. A pair removes the last seat of the list and sets it anew, which makes the next seat the last.
+roster_calls() { # KIND CALLS C
+    case $1 in
+    filling) seats "$3" 600 | awk -v n="$(($2 / 600))" '{ list = list $0 "\n" } END { for (i = 0; i < n; i++) printf "%s", list }' ;;
+    last) repeated "U 2 1 0" "$2" ;;
+    absent) repeated "U 2 600 0" "$2" ;;
+    count) repeated "U 4 1500 0" "$2" ;;
+    set) repeated "U 1 1 5/U 1 1 4094" "$2" ;;
+    pair) awk -v n="$2" 'BEGIN { for (i = 0; i < n; i++) { s = i % 600 + 1; print "U 3 " s " 0"; print "U 1 " s " " 5 * s } }' ;;
+    esac
+}
+# The replies to the list's last calls, with every call in an R line, after which the roster's program writes what an audit says.
+replies() { # PROGRAM LINES
+    sed 's/^U/R/' "$work/in" | "$1" >"$work/said"
+    grep '^R' "$work/said" | tail -n "$2"
+}
+# Nanoseconds for the list, the best of three.
+fastest() { # PROGRAM
+    for _ in 1 2 3; do
+        from=$(date +%s%N)
+        "$1" <"$work/in" >"$work/said"
+        echo $(($(date +%s%N) - from))
+    done | sort -n | head -n 1
+}
+# Microseconds a call: each line read, its call made, and its line written, "U code p q UNDECIDED", less what the seats before them take. The roster's
+# program writes each name, space and number by a write of its own, eight to a line, the plain one many lines at once.
+spent() { # PROGRAM C N KIND CALLS
+    seats "$2" "$3" >"$work/in"
+    before=$(fastest "$1")
+    roster_calls "$4" "$5" "$2" >>"$work/in"
+    echo "$before $(fastest "$1") $5" | awk '{ print ($2 - $1) / 1000 / $3 }'
+}
+measure_roster() { # NAME C N KIND CALLS PLAIN
+    { seats "$2" "$3"; roster_calls "$4" 600 "$2"; } >"$work/in"
+    replies target/bin/roster_cases 600 >"$work/ours"
+    if grep '^A' "$work/said" | grep -qv '^A 0 0 [01] [01] [01] '; then echo "not sound: $1, C = $2" >&2; exit 1; fi
+    replies "$work/plain_roster" 600 >"$work/theirs"
+    cmp -s "$work/ours" "$work/theirs" || { echo "replies differ: $1, C = $2" >&2; exit 1; }
+    ours=$(spent target/bin/roster_cases "$2" "$3" "$4" "$5")
+    plain=$(spent "$work/plain_roster" "$2" "$3" "$4" "$6")
+    awk -v row="| $1 | $2 | $5 | $6 |" -v a="$ours" -v b="$plain" 'BEGIN { printf "%s %.1f | %.3f | %.0f |\n", row, a, b, a / b }'
+}
+measure_rosters() {
+    rt check roster_cases >/dev/null
+    rustc -O -o "$work/plain_roster" bench/plain_roster.rs
+    echo "| seat roster | C | calls | calls on the array | roster, us a call | plain array, us a call | ratio |"
+    echo "|---|---|---|---|---|---|---|"
+    for c in 1200 4096; do
+        measure_roster "filling 600 seats, a set" "$c" 0 filling 6000 3000000
+        measure_roster "look up of the last of 600 seats" "$c" 600 last 3000 3000000
+        measure_roster "look up of an absent seat, 599 present" "$c" 599 absent 3000 3000000
+        measure_roster "count of 600 seats" "$c" 600 count 3000 3000000
+        measure_roster "set of the last of 600 seats" "$c" 600 set 3000 3000000
+        measure_roster "remove of the last of 600 seats and set of it, a pair" "$c" 600 pair 1200 1000000
+    done
+}
+case ${1-} in
+--from-c)
     measure_from_c
     exit
-fi
+    ;;
+--roster)
+    measure_rosters
+    exit
+    ;;
+esac
 
 rt check session >/dev/null
 rt check load >/dev/null
@@ -273,3 +347,6 @@ measure_load 3877942671 4096
 
 echo
 measure_from_c
+
+echo
+measure_rosters
