@@ -40,16 +40,26 @@ marking() { # C LINES
     chain "$1"
     repeated "up $(($1 - 1)) 1/step/car $(($1 - 1))/step/down $(($1 - 2)) 1/step" "$2"
 }
-# Rings of M cells, each made, closed and given up: the last step of a round frees it. Freed cells come back at the free list's end, so that rounds use the
-# cells in turn; M divides C.
+# Rings of M cells, each made, closed and given up: the last step of a round frees it. Freed cells join the free chain at its front, so that every round uses
+# the same cells.
 rings() { # C M
     awk -v c="$1" -v m="$2" -v n="$lines" 'BEGIN {
         print "fresh " c
         for (i = 0; i < n; i += 2 * (m + 3)) {
-            first = at % c + 1; last = first + m - 1; at += m
-            print "cons 0 0"; print "step"; print "up " first " 1"; print "step"
-            for (k = first; k < last; k++) { print "cons " k " 0"; print "step" }
-            print "setl " first " " last; print "step"; print "down " first " 1"; print "step"
+            print "cons 0 0"; print "step"; print "up 1 1"; print "step"
+            for (k = 1; k < m; k++) { print "cons " k " 0"; print "step" }
+            print "setl 1 " m; print "step"; print "down 1 1"; print "step"
+        }
+    }'
+}
+# Lists of M cells, each made and given up: the last step of a round frees it, and every round uses the same cells.
+lists() { # C M
+    awk -v c="$1" -v m="$2" -v n="$lines" 'BEGIN {
+        print "fresh " c
+        for (i = 0; i < n; i += 2 * (m + 1)) {
+            print "cons 0 0"; print "step"
+            for (k = 1; k < m; k++) { print "cons " k " 0"; print "step" }
+            print "down " m " 1"; print "step"
         }
     }'
 }
@@ -72,12 +82,12 @@ named_far_behind() {
         }
     }'
 }
-# A cell made and given up with 62 packets waiting.
+# A cell made and given up with 62 packets waiting: 32 cells take turns.
 single_far_behind() {
     awk -v n="$lines" 'BEGIN {
         print "fresh 64"
         for (i = 0; i < 31; i++) { print "cons 0 0"; print "down " i + 1 " 1" }
-        for (; 4 * i < n; i++) { print "cons 0 0"; print "step"; print "down " i % 64 + 1 " 1"; print "step" }
+        for (; 4 * i < n; i++) { print "cons 0 0"; print "step"; print "down " i % 32 + 1 " 1"; print "step" }
     }'
 }
 # 64 packets wait, of one cell or of 32, and every call is refused.
@@ -290,6 +300,8 @@ for ring in "64 64" "4096 64" "4095 65" "4096 4096"; do
     rings $ring >"$work/in"
     measure "rings of ${ring#* } made and given up" "${ring% *}"
 done
+lists 4096 8 >"$work/in"
+measure "lists of 8 made and given up" 4096
 long_queue >"$work/in"
 measure "63 packets of one cell waiting" 64
 named_far_behind >"$work/in"

@@ -213,7 +213,8 @@ struct row_reply row_up(uint16_t *table, size_t table_words, struct row_queue *q
 struct row_reply row_down(uint16_t *table, size_t table_words, struct row_queue *queue, uint16_t x, uint16_t n);
 
 /*
- * step: takes the oldest packet, makes its count changes, and frees every cell in use that is not reached then.
+ * step: takes the oldest packet, makes its count changes, and frees every cell in use that is not reached then. Freed
+ * cells join the free list at its front, in ascending order.
  * Asks: 1, 2 (the scratch has C words or more), also where no packet waits.
  * Reply: ROW_IDLE; or ROW_APPLIED with the kind of the packet and how many cells were freed.
  * Writes: counts, freed cells, free ends; the queue loses its oldest packet; the first C words of the scratch become 0.

@@ -5,7 +5,6 @@ function fresh(c,  i) {
     print "fresh " c
     for (i = 1; i <= c; i++) free[i] = i
     head = 1
-    tail = c + 1
 }
 function call(text) {
     print text
@@ -22,14 +21,26 @@ function longer(k) {
     cell[k] = take()
     call("cons " cell[k - 1] " 0")
 }
-# cell[from] to cell[to] are free again: they join ascending.
+# cell[from] to cell[to] are free again: they join in front, ascending.
 function freed(from, to,  k, j, x) {
     for (k = from + 1; k <= to; k++) {
         x = cell[k]
         for (j = k - 1; j >= from && cell[j] > x; j--) cell[j + 1] = cell[j]
         cell[j + 1] = x
     }
-    for (k = from; k <= to; k++) free[tail++] = cell[k]
+    for (k = to; k >= from; k--) free[--head] = cell[k]
+}
+# The first n cells of the free chain, n a prime, in another order: made one by one and given up one by one.
+function scattered(n,  k, made) {
+    for (k = 0; k < n; k++) {
+        made[k] = take()
+        call("cons 0 0")
+    }
+    for (k = 1; k <= n; k++) {
+        cell[1] = made[k * 77 % n]
+        call("down " cell[1] " 1")
+        freed(1, 1)
+    }
 }
 # A ring held at its first cell.
 function closed(m) {
@@ -79,6 +90,7 @@ BEGIN {
     split("4096 960 200", stores)
     for (s = 1; s <= 3; s++) {
         fresh(stores[s])
+        scattered(199)
         for (m = 1; m <= 65; m += m == 17 ? 46 : m < 17 ? 4 : 1) {
             ring(m)
             supported(m)

@@ -43,10 +43,10 @@ int main(void)
 {
     const size_t words = ROW_TABLE_WORDS(CELLS);
     const uint16_t at_the_end[ROW_TABLE_WORDS(CELLS)] = {
-        3, 3, 2,          /* three cells; the free list goes from 3 to 1 to 2 */
+        3, 1, 3,          /* three cells; the free list goes from 1 to 2 to 3 */
         2, 0, 0, 0, 0, 0, /* cell 1 */
-        0, 0, 0, 0, 0, 0, /* cell 2 */
-        1, 0, 0, 0, 0, 0, /* cell 3 */
+        3, 0, 0, 0, 0, 0, /* cell 2 */
+        0, 0, 0, 0, 0, 0, /* cell 3 */
     };
 
     expect("fresh 3", row_fresh(table, words, &queue, CELLS), ROW_VALUE, 0, 0);

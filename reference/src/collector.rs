@@ -151,11 +151,15 @@ pub fn mark(table: &[u16], marks: &mut [u16]) {
     }
 }
 
-/// Frees every cell in use without a mark, in ascending order, and gives their
-/// number.
+/// Frees every cell in use without a mark and gives their number. They join the
+/// free chain at its front (A8), the lowest first of all, the others ascending
+/// behind it and the cells that were free already behind them.
 fn sweep(table: &mut [u16], marks: &[u16]) -> u16 {
     let mut freed = 0;
     let cells = marks.len() as u16;
+    let free_before = table[FIRST_FREE];
+    // The last cell freed so far, and the word that tells which one is next.
+    let (mut last, mut next) = (NIL, FIRST_FREE);
     for (x, &mark) in (1..=cells).zip(marks) {
         if mark != 0 || table[at(x) + STATE] != IN_USE {
             continue;
@@ -168,18 +172,14 @@ fn sweep(table: &mut [u16], marks: &[u16]) -> u16 {
                 add(table, cells, cell(child, -1));
             }
         }
-        append_free(table, x);
+        table[at(x)..at(x) + CELL_WORDS].fill(0);
+        table[next] = x;
+        (last, next) = (x, at(x) + LEFT);
         freed += 1;
     }
-    freed
-}
-
-/// Puts cell `x` at the end of the free chain.
-fn append_free(table: &mut [u16], x: u16) {
-    table[at(x)..at(x) + CELL_WORDS].fill(0);
-    match table[LAST_FREE] {
-        NIL => table[FIRST_FREE] = x,
-        last => table[at(last) + LEFT] = x,
+    table[next] = free_before;
+    if free_before == NIL && last != NIL {
+        table[LAST_FREE] = last;
     }
-    table[LAST_FREE] = x;
+    freed
 }

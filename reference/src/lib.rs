@@ -3,7 +3,7 @@
 //! session program, the load program (request A2 of document 02), rule text in
 //! and out (A4), a runner for lists of stores, the seat roster (A7) as a plain list
 //! with a runner of its own, and generators. Document 01 is here what requests A1,
-//! A3, A5 and A6 make of it.
+//! A3, A5, A6 and A8 make of it.
 
 pub mod annotate;
 pub mod audit;

@@ -44,11 +44,12 @@ fn k1_table() {
     for line in K1.lines() {
         session::parse(line.as_bytes()).unwrap().perform(&mut store);
     }
+    // The chain is 1, 2, 3 (A8).
     let expected = [
-        3, 3, 2, //
+        3, 1, 3, //
         2, 0, 0, 0, 0, 0, //
-        0, 0, 0, 0, 0, 0, //
-        1, 0, 0, 0, 0, 0,
+        3, 0, 0, 0, 0, 0, //
+        0, 0, 0, 0, 0, 0,
     ];
     assert_eq!(store.table, expected);
     assert_eq!((store.queue.place, store.queue.count), (5, 0));

@@ -579,7 +579,7 @@ fn lists_lend_stores_with_clipped_readings() {
         ("garbage", 0, 3),
         ("rows", 10, 0),
         ("rings", 5, 0),
-        ("wrecks", 3, 10),
+        ("wrecks", 1, 10),
         ("clipped", 30, 20),
         ("text-borders", 3, 0),
         ("text-queues", 10, 0),

@@ -104,11 +104,12 @@ fn k1_call_by_call() {
             ("step", "IDLE", &[0, 0, 0]),
         ],
     );
+    // The chain is 1, 2, 3 (A8).
     let expected = [
-        3, 3, 2, //
+        3, 1, 3, //
         2, 0, 0, 0, 0, 0, //
-        0, 0, 0, 0, 0, 0, //
-        1, 0, 0, 0, 0, 0,
+        3, 0, 0, 0, 0, 0, //
+        0, 0, 0, 0, 0, 0,
     ];
     assert_eq!(store.table, expected);
 }
@@ -214,10 +215,11 @@ fn alive_by_a_packet_only() {
             // Cell 1 is in no field any more.
             ("step", "OK 0", &[1, 1, 0]),
             ("step", "OK 1", &[0, 0, 0]),
-            // New and given up: its own cons keeps it, then the down.
-            ("cons 0 0", "OK 3", &[0, 0, 1]),
-            ("down 3 1", "OK 0", &[0, 0, 2]),
-            ("step", "OK 0", &[0, 0, 1]),
+            // Cell 1 again (A8), new and given up: its own cons keeps it, then the
+            // down.
+            ("cons 0 0", "OK 1", &[1, 0, 0]),
+            ("down 1 1", "OK 0", &[2, 0, 0]),
+            ("step", "OK 0", &[1, 0, 0]),
             ("step", "OK 1", &[0, 0, 0]),
         ],
     );

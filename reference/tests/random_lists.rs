@@ -195,7 +195,7 @@ fn assert_nil_was_read(replies: Replies) {
 #[test]
 fn tiny_stores() {
     // With this seed the queue fills up, which is rare with so few cells.
-    assert_nil_was_read(run_lists(33, 3, 200, 20_000));
+    assert_nil_was_read(run_lists(18, 3, 200, 20_000));
 }
 
 #[test]

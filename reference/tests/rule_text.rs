@@ -152,23 +152,23 @@ fn cells_come_from_the_chain() {
         Call::Cons(0, 0),
         Call::Cons(0, 0),
         Call::Cons(0, 0),
-        Call::Down(2, 1),
         Call::Down(1, 1),
+        Call::Down(2, 1),
     ] {
         assert!(matches!(call.perform(&mut store), Reply::Done(_)));
     }
     while Call::Step.perform(&mut store) != Reply::Idle {}
-    // Free are 4, 5, 2, 1, in this order.
-    assert_eq!(read(&mut store, "(7 8 9)"), Ok(2));
+    // Free are 2, 1, 4, 5, in this order: the cell freed last is the first (A8).
+    assert_eq!(read(&mut store, "(7 8 9)"), Ok(4));
     let expected = [
-        (2, ATOM + 7, 5),
+        (1, ATOM + 8, 2),
+        (2, ATOM + 9, 0),
         (3, 0, 0),
-        (4, ATOM + 9, 0),
-        (5, ATOM + 8, 4),
+        (4, ATOM + 7, 1),
     ];
     assert_eq!(fields(&store), expected);
     assert_eq!(read(&mut store, "(1 2)"), Err(8));
-    assert_eq!(read(&mut store, "(1)"), Ok(1));
+    assert_eq!(read(&mut store, "(1)"), Ok(5));
     assert_eq!(store.table[..3], [5, 0, 0]);
 }
 

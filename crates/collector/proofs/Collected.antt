@@ -10,10 +10,11 @@ use Rattle.machine.specs.Range.{select}
 use Rattle.machine.specs.Table.{capacity, scratchWords, inUse}
 use Rattle.machine.specs.Reached.{reached}
 use Rattle.machine.specs.Step.{unreached, swept, cleared}
+use Rattle.machine.specs.Facts.{Ascending}
 use Rattle.machine.specs.Suspects.{isSuspect, isKept, localDead}
 use Rattle.machine.proofs.Lists.{Indices}
 use Rattle.machine.proofs.Scratch.{cleared-same}
-use Rattle.machine.proofs.Select.{select-indices, select-same}
+use Rattle.machine.proofs.Select.{select-indices, select-ascending, select-same}
 use Rattle.marks.specs.Marks.{Marks}
 use Rattle.walks.specs.Walk.{mostWalked}
 use Rattle.suspects.specs.Dead.{Finds}
@@ -29,6 +30,10 @@ unreached-indices t = select-indices (capacity t) (λ i. inUse t i && not (reach
 pub local-indices : (t : List ℕ) (w : ℕ) → Indices (capacity t) (localDead t w)
 unfolding localDead
 local-indices t w = select-indices (capacity t) (λ i. isSuspect t w i && not (isKept t w i))
+
+local-ascending : (t : List ℕ) (w : ℕ) → Ascending (localDead t w)
+unfolding localDead
+local-ascending t w = select-ascending (capacity t) (λ i. isSuspect t w i && not (isKept t w i))
 
 -- mark and sweep
 pub collects : (t s s₁ t′ s′ : List ℕ) (c n : ℕ) → c ≡ capacity t → Marks t s s₁ → Sweeps t s₁ t′ n → s′ ≡ cleared (scratchWords c) s₁
@@ -59,6 +64,7 @@ module _ (t : List ℕ) (w : ℕ) (dead : List ℕ) (n : ℕ) (f : Finds t w dea
     size = f .size;
     few = few;
     below = λ i l. rw (getD-take n dead i 0 l) at (index-at (capacity t) (take n dead) (rw (f .found few) (local-indices t w)) i (omega (arith, front)));
+    ascending = rw (f .found few) (local-ascending t w);
   }
 
   pub frees-found : (c : ℕ) → c ≡ capacity t → (s t′ s′ : List ℕ) → t′ ≡ swept t (take n dead) → s′ ≡ cleared (scratchWords c) s

@@ -1,7 +1,6 @@
 -- The collector's laws.
 pub mod FreedCells
 pub mod SweepPass
-pub mod SweepLoop
 pub mod Collected
 pub mod Applied
 pub mod StepContract

@@ -44,7 +44,7 @@ module _ (t : List ℕ) (q : Queue) (s : List ℕ) (h : Lent t q s) (some : 0 < 
   framed-swept : (dead : List ℕ) → Indices (capacity t₁) dead → Framed t (swept t₁ dead)
   framed-swept dead l =
       let k = shape-applied t p (h .shape .table) in
-      let w = sweeps t₁ dead (k .room) l (k .last) in
+      let w = sweeps t₁ dead (k .room) l in
       framed-trans t t₁ (swept t₁ dead) (framed-applied t p)
       (record { sameLength = w .sameLength; sameCapacity = w .sameCapacity; pastCells = w .pastCells })
 

@@ -13,7 +13,7 @@ K = record {
 pub more : More-cases
 unfolding computes
 more = record {
-  replies = (refl, (refl, (refl, (refl, (refl, (refl, (refl, (refl, (refl, (refl, (refl, tt)))))))))));
+  replies = (refl, (refl, (refl, (refl, (refl, (refl, (refl, (refl, (refl, (refl, (refl, (refl, tt))))))))))));
   nil-reads = (refl, (refl, (refl, (refl, tt))));
   detach-ends = refl;
 }

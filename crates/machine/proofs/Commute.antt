@@ -103,54 +103,46 @@ module _ (t : List ℕ) (i p v : ℕ) where
   abbrev put : List ℕ → List ℕ
   put u = putWord u p cellCount v
 
-  -- a cell count written and the cell at index i wiped
-  wipe-other : (p ≡ i → ⊥) → putCell (put t) i (freeCell 0) ≡ put (putCell t i (freeCell 0))
-  unfolding putCell
-  wipe-other d = words-other t i left (freeCell 0) (omega arith) p cellCount v (omega arith) d
-
-  wipe-same : p ≡ i → putCell (put t) i (freeCell 0) ≡ putCell t i (freeCell 0)
-  unfolding putCell
-  wipe-same e = rw e (words-same t i left (freeCell 0) (omega arith) cellCount v (omega arith) (omega arith))
+  abbrev end : ℕ
+  end = cond (eqb (firstFree t) 0) (suc i) (lastFree t)
 
   abbrev wiped : List ℕ
-  wiped = putCell t i (freeCell 0)
+  wiped = putCell t i (freeCell (firstFree t))
+
+  -- a cell count written and the cell at index i wiped
+  wipe-other : (p ≡ i → ⊥) → putCell (put t) i (freeCell (firstFree t)) ≡ put wiped
+  unfolding putCell
+  wipe-other d = words-other t i left (freeCell (firstFree t)) (omega arith) p cellCount v (omega arith) d
+
+  wipe-same : p ≡ i → putCell (put t) i (freeCell (firstFree t)) ≡ wiped
+  unfolding putCell
+  wipe-same e = rw e (words-same t i left (freeCell (firstFree t)) (omega arith) cellCount v (omega arith) (omega arith))
 
   join-other : (p ≡ i → ⊥) → join (put t) i ≡ put (join t i)
   unfolding join
-  join-other d =
-      rw (lastFree-putWord t p cellCount v, firstFree-putWord t p cellCount v, wipe-other d) (go (eqb (lastFree t) 0))
-    where
-      linked : putWord (put wiped) (pred (lastFree t)) left (suc i) ≡ put (putWord wiped (pred (lastFree t)) left (suc i))
-      linked = put-comm wiped p cellCount v (pred (lastFree t)) left (suc i) (omega arith) (omega arith) (λ _ x. omega arith)
-
-      go : (b : Bool) → cond b (putEnds (put wiped) (suc i) (suc i)) (putEnds (putWord (put wiped) (pred (lastFree t)) left (suc i)) (firstFree t) (suc i))
-          ≡ put (cond b (putEnds wiped (suc i) (suc i)) (putEnds (putWord wiped (pred (lastFree t)) left (suc i)) (firstFree t) (suc i)))
-      go true = ends-put wiped p cellCount v (suc i) (suc i)
-      go false =
-          ap (λ (u : List ℕ). putEnds u (firstFree t) (suc i)) linked
-          ∙ ends-put (putWord wiped (pred (lastFree t)) left (suc i)) p cellCount v (firstFree t) (suc i)
+  join-other d = rw (lastFree-putWord t p cellCount v, firstFree-putWord t p cellCount v, wipe-other d) (ends-put wiped p cellCount v (suc i) end)
 
   join-same : p ≡ i → join (put t) i ≡ join t i
   unfolding join
   join-same e = rw (lastFree-putWord t p cellCount v, firstFree-putWord t p cellCount v, wipe-same e)
 
-module _ (t : List ℕ) (i w n : ℕ) (f : tableLength (capacity t) ≤ length t) (l : i < capacity t) (b : lastFree t ≤ capacity t) where
+module _ (t : List ℕ) (i w n : ℕ) (f : tableLength (capacity t) ≤ length t) (l : i < capacity t) where
   -- lowering the count of a cell that is wiped, or of another
   pub join-move : moveCount (join t i) cell w minus n ≡ join (moveCount t cell w minus n) i
   unfolding moveCount
-  join-move = rw (joins t i f l b .sameCapacity) (⊎-elim (λ (e : isCell (capacity t) w ≡ true). rw e (at-cell (cell-index (capacity t) w e))) (λ (e : isCell (capacity t) w ≡ false). rw e) (tested (isCell (capacity t) w)))
+  join-move = rw (joins t i f l .sameCapacity) (⊎-elim (λ (e : isCell (capacity t) w ≡ true). rw e (at-cell (cell-index (capacity t) w e))) (λ (e : isCell (capacity t) w ≡ false). rw e) (tested (isCell (capacity t) w)))
     where
       at-cell : pred w < capacity t → putWord (join t i) (pred w) cellCount (wordAt (join t i) (pred w) cellCount - n) ≡ join (putWord t (pred w) cellCount (wordAt t (pred w) cellCount - n)) i
       at-cell m = ⊎-elim (λ e. here (eqb-true (pred w) i e)) (λ e. elsewhere (eqb-false (pred w) i e)) (tested (eqb (pred w) i))
         where
           here : pred w ≡ i → putWord (join t i) (pred w) cellCount (wordAt (join t i) (pred w) cellCount - n) ≡ join (putWord t (pred w) cellCount (wordAt t (pred w) cellCount - n)) i
           here e =
-              let zero : wordAt (join t i) (pred w) cellCount ≡ 0 = rw e (joins t i f l b .wiped cellCount (omega arith) (λ x. absurd (omega arith))) in
+              let zero : wordAt (join t i) (pred w) cellCount ≡ 0 = rw e (joins t i f l .wiped cellCount (omega arith) (omega arith)) in
               let same : wordAt (join t i) (pred w) cellCount - n ≡ wordAt (join t i) (pred w) cellCount = omega arith in
               ap (putWord (join t i) (pred w) cellCount) same ∙ put-itself (join t i) (pred w) cellCount
               ∙ sym (join-same t i (pred w) (wordAt t (pred w) cellCount - n) e)
 
           elsewhere : (pred w ≡ i → ⊥) → putWord (join t i) (pred w) cellCount (wordAt (join t i) (pred w) cellCount - n) ≡ join (putWord t (pred w) cellCount (wordAt t (pred w) cellCount - n)) i
           elsewhere d =
-              ap (λ (x : ℕ). putWord (join t i) (pred w) cellCount (x - n)) (joins t i f l b .stands (pred w) cellCount (omega arith) d (λ x. absurd (omega arith)))
+              ap (λ (x : ℕ). putWord (join t i) (pred w) cellCount (x - n)) (joins t i f l .unchanged (pred w) cellCount (omega arith) d)
               ∙ sym (join-other t i (pred w) (wordAt t (pred w) cellCount - n) d)

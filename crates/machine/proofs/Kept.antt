@@ -149,13 +149,13 @@ framed-changes t (h ∷ hs) =
     )
 
 -- packets queued, and the oldest applied
-framed-naming : (d : Direction) (t : List ℕ) (p : Packet) → Framed t (named d t p) × (lastFree (named d t p) ≡ lastFree t)
+framed-naming : (d : Direction) (t : List ℕ) (p : Packet) → Framed t (named d t p)
 unfolding named
-framed-naming d t p = framed-changes t (nameChanges d (names p))
+framed-naming d t p = framed-changes t (nameChanges d (names p)) .0
 
 framed-named : (t : List ℕ) (ps : List Packet) → Framed t (namedAll t ps)
 framed-named t [] = framed-refl t
-framed-named t (p ∷ ps) = framed-trans t (named plus t p) (namedAll (named plus t p) ps) (framed-naming plus t p .0) (framed-named (named plus t p) ps)
+framed-named t (p ∷ ps) = framed-trans t (named plus t p) (namedAll (named plus t p) ps) (framed-naming plus t p) (framed-named (named plus t p) ps)
 
 framed-row : (s : Store) (r : RowCall) → AllYes (early s (row r)) → Framed (s .table) (namedAll (written (s .table) r) (packetsOf (s .table) r))
 framed-row s r h =
@@ -163,17 +163,16 @@ framed-row s r h =
     let ps = packetsOf (s .table) r in
     framed-trans (s .table) w (namedAll w ps) (framed-written s r h) (framed-named w ps)
 
-framed-applied : (t : List ℕ) (p : Packet) → Framed t (applyPacket t p) × (lastFree (applyPacket t p) ≡ lastFree t)
+framed-applied : (t : List ℕ) (p : Packet) → Framed t (applyPacket t p)
 unfolding applyPacket
 framed-applied t p =
     let u = applyChanges t (changes p) in
-    let first = framed-changes t (changes p) in
-    (framed-trans t u _ (first .0) (framed-naming _ u p .0), framed-naming _ u p .1 ∙ first .1)
+    framed-trans t u _ (framed-changes t (changes p) .0) (framed-naming _ u p)
 
-framed-swept : (t : List ℕ) → tableLength (capacity t) ≤ length t → lastFree t ≤ capacity t → Framed t (swept t (unreached t))
+framed-swept : (t : List ℕ) → tableLength (capacity t) ≤ length t → Framed t (swept t (unreached t))
 unfolding unreached
-framed-swept t f b =
-    let w = sweeps t (unreached t) f (select-indices (capacity t) _) b in
+framed-swept t f =
+    let w = sweeps t (unreached t) f (select-indices (capacity t) _) in
     record { sameLength = w .sameLength; sameCapacity = w .sameCapacity; pastCells = w .pastCells }
 
 pub untouched : (s : Store) (t : List ℕ) (q : _) (u : List ℕ) → Framed (s .table) t → length u ≡ length (s .scratch) → drop (scratchWords (capacity (s .table))) u ≡ drop (scratchWords (capacity (s .table))) (s .scratch) → Untouched s (store t q u)
@@ -200,10 +199,10 @@ untouched-step s (p ∷ ps) h =
     let u = applyPacket t p in
     let shape = shape-is t (s .queue) (h .0) in
     let c = framed-applied t p in
-    let w = framed-swept u (rw (c .0 .sameCapacity, c .0 .sameLength) (shape .table .room)) (rw (c .1, c .0 .sameCapacity) (shape .table .last)) in
-    untouched s (swept u (unreached u)) _ (cleared (scratchWords (capacity u)) (s .scratch)) (framed-trans t u (swept u (unreached u)) (c .0) w)
-    (rw (c .0 .sameCapacity) (length-cleared (scratchWords (capacity t)) (s .scratch) (scratch-room s (h .1 .0))))
-    (rw (c .0 .sameCapacity) (past-cleared (scratchWords (capacity t)) (s .scratch)))
+    let w = framed-swept u (rw (c .sameCapacity, c .sameLength) (shape .table .room)) in
+    untouched s (swept u (unreached u)) _ (cleared (scratchWords (capacity u)) (s .scratch)) (framed-trans t u (swept u (unreached u)) c w)
+    (rw (c .sameCapacity) (length-cleared (scratchWords (capacity t)) (s .scratch) (scratch-room s (h .1 .0))))
+    (rw (c .sameCapacity) (past-cleared (scratchWords (capacity t)) (s .scratch)))
 
 -- where the machine accepts, the early questions say "yes"
 pub early-yes : (s : Store) (call : Call) → firstNo (questions s call) ≡ 0 → AllYes (early s call)

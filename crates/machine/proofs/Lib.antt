@@ -12,6 +12,7 @@ pub mod Undo
 pub mod Moves
 pub mod Sweep
 pub mod Commute
+pub mod SweptLast
 pub mod Select
 pub mod Names
 pub mod Fresh

@@ -10,7 +10,7 @@ use borrow.Author.Tests.{eqb-true, eq-eqb}
 use Rattle.machine.specs.Range.{everyOf, occurrences, lastOf, select}
 use Rattle.machine.specs.Queue.{Packet}
 use Rattle.machine.specs.Packets.{Counter, Direction, changes, movedBy, waitingChange, contains}
-use Rattle.machine.proofs.Range.{or-true, or-left, or-right, and-both, and-first, and-second, matching-same, matching-other}
+use Rattle.machine.proofs.Range.{or-true, or-left, or-right, and-both, and-first, and-second, matching-other}
 
 pub and-true : (b : Bool) → b && true ≡ b
 and-true true = refl
@@ -48,12 +48,6 @@ unfolding lastOf
 lastOf-snoc [] i = refl
 lastOf-snoc (x ∷ []) i = refl
 lastOf-snoc (x ∷ y ∷ ys) i = lastOf-snoc (y ∷ ys) i
-
-pub last-occurs : (is : List ℕ) (z : ℕ) → lastOf (map suc is) ≡ suc z → 1 ≤ occurrences z is
-unfolding lastOf occurrences
-last-occurs [] z e = absurd (omega arith)
-last-occurs (y ∷ []) z e = omega (arith, matching-same y z 1 (omega arith))
-last-occurs (y ∷ x ∷ ys) z e = omega (arith, last-occurs (x ∷ ys) z e)
 
 -- numbers below c, and none of them past it
 abbrev pub Indices : ℕ → List ℕ → Type 0

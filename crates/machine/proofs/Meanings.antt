@@ -24,6 +24,6 @@ meanings = record {
   replay = replay-is;
   undoing = undoing-is;
   dead = dead-is;
-  sweep = λ t f b. sweeps t (unreached t) f (select-indices (capacity t) _) b;
+  sweep = λ t f. sweeps t (unreached t) f (select-indices (capacity t) _);
   fresh = fresh-is;
 }

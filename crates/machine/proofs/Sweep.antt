@@ -1,23 +1,22 @@
 -- What the step's sweep means: lowering the counts, then wiping the cells and joining them to the chain.
 use mathlib.Core.Path.{_≡_, refl, sym, ap, _∙_}
 use mathlib.Core.Logic.{⊎-elim, _≢_}
-use mathlib.Core.Bool.{true, false, false≢true}
-use mathlib.Core.List.{List, [], _∷_, _++_, map, append-nil}
-use Prim.Native.Nat.{ℕ, zero, suc, pred, _+_, _-_, _≤_, _<_}
+use mathlib.Core.Bool.{true, false, cond, false≢true}
+use mathlib.Core.List.{List, [], _∷_, _++_, map}
+use Prim.Native.Nat.{ℕ, suc, _+_, _-_, _≤_, _<_}
 use native.Mathlib.Omega.{arith}
 use lib.Dec.{eqb}
 use lib.ListN.{length, drop}
-use lib.Seq.{append-snoc}
-use borrow.Author.Tests.{eqb-true, eqb-false}
+use borrow.Author.Tests.{eqb-true, eqb-false, ne-eqb}
 use Rattle.machine.specs.Range.{matching, occurrences, lastOf}
-use Rattle.machine.specs.Table.{stride, left, right, cellCount, freeCell, capacity, firstFree, lastFree, tableLength, wordAt, putWord, putEnds, putCell}
+use Rattle.machine.specs.Table.{stride, left, right, cellCount, freeCell, capacity, firstFree, lastFree, tableLength, wordAt, putCell}
 use Rattle.machine.specs.Packets.{cell, minus, contains}
 use Rattle.machine.specs.Step.{moveCount, lowerPointers, join, joinAll, swept}
 use Rattle.machine.specs.Facts.{Linked, pointersOut, Sweep}
 use Rattle.machine.proofs.Range.{tested, not-both, occurrences-append, or-true, or-false, matching-same}
-use Rattle.machine.proofs.Table.{Inside, inside-putCell, cell-word, free-word, cell-other, capacity-putCell, past-putCell, room, word-same, word-other, length-putWord, length-putEnds, length-putCell, capacity-putWord, capacity-putEnds, firstFree-putEnds, lastFree-putEnds, word-putEnds, past-putWord, past-putEnds}
+use Rattle.machine.proofs.Table.{Inside, cell-word, free-word, cell-other, capacity-putCell, past-putCell, room, length-putEnds, length-putCell, capacity-putEnds, firstFree-putEnds, lastFree-putEnds, word-putEnds, past-putEnds}
 use Rattle.machine.proofs.Moves.{length-move, capacity-move, firstFree-move, lastFree-move, past-move, word-move, count-move}
-use Rattle.machine.proofs.Lists.{contains-cons, lastOf-snoc, last-occurs, Indices}
+use Rattle.machine.proofs.Lists.{contains-cons, Indices}
 
 pub out-append : (t : List ℕ) (is js : List ℕ) (x : ℕ) → pointersOut t (is ++ js) x ≡ pointersOut t is x + pointersOut t js x
 unfolding pointersOut
@@ -57,7 +56,7 @@ alike-move t w n = record {
 }
 
 -- both pointers out of the cell at index i lower a count
-lowerBoth : List ℕ → ℕ → List ℕ
+unfoldable pub lowerBoth : List ℕ → ℕ → List ℕ
 lowerBoth t i = moveCount (moveCount t cell (wordAt t i left) minus 1) cell (wordAt t i right) minus 1
 
 alike-both : (t : List ℕ) (i : ℕ) → SameButCounts t (lowerBoth t i)
@@ -69,7 +68,7 @@ alike-both t i =
 pub alike-lower : (t : List ℕ) (is : List ℕ) → SameButCounts t (lowerPointers t is)
 unfolding lowerPointers lowerBoth
 alike-lower t [] = alike-refl t
-alike-lower t (i ∷ is) = alike-trans t (lowerBoth t i) (lowerPointers t (i ∷ is)) (alike-both t i) (alike-lower (lowerBoth t i) is)
+alike-lower t (i ∷ is) = alike-trans t (lowerPointers t is) (lowerPointers t (i ∷ is)) (alike-lower t is) (alike-both (lowerPointers t is) i)
 
 count-both : (t : List ℕ) (i : ℕ) → tableLength (capacity t) ≤ length t → (j : ℕ) → j < capacity t
     → wordAt (lowerBoth t i) j cellCount ≡ wordAt t j cellCount - (matching (wordAt t i left) (suc j) 1 + matching (wordAt t i right) (suc j) 1)
@@ -80,165 +79,91 @@ count-both t i f j l =
     let g = count-move u cell (wordAt t i right) minus 1 (rw (capacity-move t cell (wordAt t i left) minus 1, length-move t cell (wordAt t i left) minus 1) f) j (rw (capacity-move t cell (wordAt t i left) minus 1) l) in
     omega arith
 
-out-same : (t u : List ℕ) (is : List ℕ) (x : ℕ) → SameButCounts t u → pointersOut u is x ≡ pointersOut t is x
-unfolding pointersOut
-out-same t u [] x h = refl
-out-same t u (i ∷ is) x h = rw (h .sameWords i left (omega arith) (omega arith), h .sameWords i right (omega arith) (omega arith), out-same t u is x h)
-
 pub count-lower : (t : List ℕ) (is : List ℕ) → tableLength (capacity t) ≤ length t → (j : ℕ) → j < capacity t
     → wordAt (lowerPointers t is) j cellCount ≡ wordAt t j cellCount - pointersOut t is (suc j)
 unfolding lowerPointers pointersOut lowerBoth
 count-lower t [] f j l = omega arith
 count-lower t (i ∷ is) f j l =
-    let h = alike-both t i in
-    let e = count-lower (lowerBoth t i) is (rw (h .sameCapacity, h .sameLength) f) j (rw (h .sameCapacity) l) in
-    let g = count-both t i f j l in
-    omega (arith, out-same t (lowerBoth t i) is (suc j) h)
-
--- the chain with one cell more at its end
-last-some : (y : ℕ) (ys : List ℕ) → lastOf (map suc (y ∷ ys)) ≢ 0
-unfolding lastOf
-last-some y [] e = omega arith
-last-some y (x ∷ ys) e = last-some x ys e
+    let u = lowerPointers t is in
+    let h = alike-lower t is in
+    let e = count-lower t is f j l in
+    let g = count-both u i (rw (h .sameCapacity, h .sameLength) f) j (rw (h .sameCapacity) l) in
+    let a = ap (λ (w : ℕ). matching w (suc j) 1) (h .sameWords i left (omega arith) (omega arith)) in
+    let b = ap (λ (w : ℕ). matching w (suc j) 1) (h .sameWords i right (omega arith) (omega arith)) in
+    omega (arith, e, g, a, b)
 
 occurrences-cons : (j x : ℕ) (xs : List ℕ) → occurrences j (x ∷ xs) ≡ matching x j 1 + occurrences j xs
 unfolding occurrences
 occurrences-cons j x xs = refl
 
-occurs-first : (x : ℕ) (xs : List ℕ) → 1 ≤ occurrences x (x ∷ xs)
-unfolding occurrences
-occurs-first x xs = omega (arith, matching-same x x 1 refl)
-
-module _ (t t′ : List ℕ) (i : ℕ) (sameCapacity : capacity t′ ≡ capacity t) (l : i < capacity t) (ended : wordAt t′ i left ≡ 0) where
-  linked-snoc : (w x : ℕ) (xs : List ℕ) → Linked t w (x ∷ xs)
-      → ((j : ℕ) → suc j ≢ lastOf (map suc (x ∷ xs)) → j ≢ i → wordAt t′ j left ≡ wordAt t j left)
-      → ((j : ℕ) → lastOf (map suc (x ∷ xs)) ≡ suc j → wordAt t′ j left ≡ suc i)
-      → ((j : ℕ) → occurrences j (x ∷ xs) + occurrences j (i ∷ []) ≤ 1)
-      → Linked t′ w ((x ∷ xs) ++ (i ∷ []))
-  unfolding lastOf
-  linked-snoc w x [] h keep end once = (h .0, rw sameCapacity (h .1), (end x refl, rw sameCapacity l, ended))
-  linked-snoc w x (y ∷ ys) h keep end once =
-      (h .0, rw sameCapacity (h .1), rw (keep x not-last not-new) (linked-snoc (wordAt t x left) y ys (h .2) keep end later))
-    where
-      not-new : x ≢ i
-      not-new e = omega (arith, once x, occurs-first x (y ∷ ys), new-occurs)
-        where
-          new-occurs : 1 ≤ occurrences x (i ∷ [])
-          new-occurs = rw (← e) (occurs-first x [])
-
-      not-last : suc x ≢ lastOf (map suc (y ∷ ys))
-      not-last e = omega (arith, once x, occurrences-cons x x (y ∷ ys), matching-same x x 1 refl, last-occurs (y ∷ ys) x (sym e))
-
-      later : (j : ℕ) → occurrences j (y ∷ ys) + occurrences j (i ∷ []) ≤ 1
-      later j = omega (arith, once j, occurrences-cons j x (y ∷ ys))
+-- a chain without the cell at index i is a chain in every table whose other left words are the same
+linked-unchanged : (t t′ : List ℕ) (i : ℕ) → capacity t′ ≡ capacity t → ((j : ℕ) → j ≢ i → wordAt t′ j left ≡ wordAt t j left) → (w : ℕ) (is : List ℕ)
+    → occurrences i is ≡ 0 → Linked t w is → Linked t′ w is
+linked-unchanged t t′ i c keep w [] n h = h
+linked-unchanged t t′ i c keep w (x ∷ xs) n h =
+    (h .0, rw c (h .1), rw (keep x other) (linked-unchanged t t′ i c keep (wordAt t x left) xs (omega (arith, occurrences-cons i x xs)) (h .2)))
+  where
+    other : x ≢ i
+    other e = omega (arith, occurrences-cons i x xs, matching-same x i 1 e)
 
 -- what joining the cell at index i to the chain does
 pub record Joins (t : List ℕ) (i : ℕ) (t′ : List ℕ) : Type 0 where
   pub sameLength : length t′ ≡ length t
   pub sameCapacity : capacity t′ ≡ capacity t
   pub pastCells : drop (tableLength (capacity t)) t′ ≡ drop (tableLength (capacity t)) t
-  pub newLast : lastFree t′ ≡ suc i
-  pub newFirst : lastFree t ≡ 0 → firstFree t′ ≡ suc i
-  pub sameFirst : lastFree t ≢ 0 → firstFree t′ ≡ firstFree t
-  pub wiped : (k : ℕ) → k < stride → (k ≡ left → suc i ≢ lastFree t) → wordAt t′ i k ≡ 0
-  pub linkedOn : (j : ℕ) → lastFree t ≡ suc j → wordAt t′ j left ≡ suc i
-  pub stands : (j k : ℕ) → k < stride → j ≢ i → (k ≡ left → suc j ≢ lastFree t) → wordAt t′ j k ≡ wordAt t j k
+  pub newFirst : firstFree t′ ≡ suc i
+  pub newLast : lastFree t′ ≡ cond (eqb (firstFree t) 0) (suc i) (lastFree t)
+  pub next : wordAt t′ i left ≡ firstFree t
+  pub wiped : (k : ℕ) → right ≤ k → k < stride → wordAt t′ i k ≡ 0
+  pub unchanged : (j k : ℕ) → k < stride → j ≢ i → wordAt t′ j k ≡ wordAt t j k
 
-module _ (t : List ℕ) (i : ℕ) (f : tableLength (capacity t) ≤ length t) (l : i < capacity t) (b : lastFree t ≤ capacity t) where
+module _ (t : List ℕ) (i : ℕ) (f : tableLength (capacity t) ≤ length t) (l : i < capacity t) where
   abbrev wipe : List ℕ
-  wipe = putCell t i (freeCell 0)
+  wipe = putCell t i (freeCell (firstFree t))
 
-  abbrev link : List ℕ
-  link = putWord wipe (pred (lastFree t)) left (suc i)
-
-  join-none : eqb (lastFree t) 0 ≡ true → join t i ≡ putEnds wipe (suc i) (suc i)
-  unfolding join
-  join-none e = rw e
-
-  join-some : eqb (lastFree t) 0 ≡ false → join t i ≡ putEnds link (firstFree t) (suc i)
-  unfolding join
-  join-some e = rw e
+  abbrev end : ℕ
+  end = cond (eqb (firstFree t) 0) (suc i) (lastFree t)
 
   inside : Inside t i
   inside = room t (capacity t) i f l
 
-  long : 2 < length t
-  long = omega arith
-
-  wipe-zero : (k : ℕ) → k < stride → wordAt wipe i k ≡ 0
-  wipe-zero zero l = cell-word t i (freeCell 0) refl inside zero l
-  wipe-zero (suc k) l = cell-word t i (freeCell 0) refl inside (suc k) l ∙ free-word 0 (suc k) (omega arith) l
-
-  joins-none : eqb (lastFree t) 0 ≡ true → Joins t i (putEnds wipe (suc i) (suc i))
-  joins-none e = record {
-    sameLength = length-putEnds wipe (suc i) (suc i) ∙ length-putCell t i (freeCell 0);
-    sameCapacity = capacity-putEnds wipe (suc i) (suc i) ∙ capacity-putCell t i (freeCell 0) refl;
-    pastCells = past-putEnds wipe (capacity t) (suc i) (suc i) ∙ past-putCell t (capacity t) i (freeCell 0) refl l;
-    newLast = lastFree-putEnds wipe (suc i) (suc i) (rw length-putCell long);
-    newFirst = λ _. firstFree-putEnds wipe (suc i) (suc i) (rw length-putCell long);
-    sameFirst = λ d. absurd (d (eqb-true (lastFree t) 0 e));
-    wiped = λ k m _. word-putEnds wipe (suc i) (suc i) i k ∙ wipe-zero k m;
-    linkedOn = λ j d. absurd (omega (arith, eqb-true (lastFree t) 0 e));
-    stands = λ j k m d _. word-putEnds wipe (suc i) (suc i) j k ∙ cell-other t i (freeCell 0) refl j k m (λ x. d (sym x));
-  }
-
-  module _ (e : eqb (lastFree t) 0 ≡ false) where
-    some : lastFree t ≢ 0
-    some = eqb-false (lastFree t) 0 e
-
-    end-below : pred (lastFree t) < capacity t
-    end-below = omega (arith, some)
-
-    end-inside : Inside wipe (pred (lastFree t))
-    end-inside = inside-putCell t i (freeCell 0) (pred (lastFree t)) (room t (capacity t) (pred (lastFree t)) f end-below)
-
-    joins-some : Joins t i (putEnds link (firstFree t) (suc i))
-    joins-some = record {
-      sameLength = length-putEnds link (firstFree t) (suc i) ∙ length-putWord wipe (pred (lastFree t)) left (suc i) ∙ length-putCell t i (freeCell 0);
-      sameCapacity = capacity-putEnds link (firstFree t) (suc i) ∙ capacity-putWord wipe (pred (lastFree t)) left (suc i) ∙ capacity-putCell t i (freeCell 0) refl;
-      pastCells =
-          past-putEnds link (capacity t) (firstFree t) (suc i)
-          ∙ past-putWord wipe (capacity t) (pred (lastFree t)) left (suc i) end-below (omega arith)
-          ∙ past-putCell t (capacity t) i (freeCell 0) refl l;
-      newLast = lastFree-putEnds link (firstFree t) (suc i) (rw (length-putWord, length-putCell) long);
-      newFirst = λ d. absurd (some d);
-      sameFirst = λ _. firstFree-putEnds link (firstFree t) (suc i) (rw (length-putWord, length-putCell) long);
-      wiped = λ k m d. word-putEnds link (firstFree t) (suc i) i k
-          ∙ word-other wipe (pred (lastFree t)) left (suc i) i k (omega arith) m (λ x y. d (sym y) (omega (arith, some)))
-          ∙ wipe-zero k m;
-      linkedOn = λ j d. word-putEnds link (firstFree t) (suc i) j left
-          ∙ ap (λ (n : ℕ). wordAt link n left) (omega arith)
-          ∙ word-same wipe (pred (lastFree t)) left (suc i) end-inside (omega arith);
-      stands = λ j k m d c. word-putEnds link (firstFree t) (suc i) j k
-          ∙ word-other wipe (pred (lastFree t)) left (suc i) j k (omega arith) m (λ x y. c (sym y) (omega (arith, some)))
-          ∙ cell-other t i (freeCell 0) refl j k m (λ x. d (sym x));
-    }
+  long : 2 < length wipe
+  long = rw length-putCell (omega arith)
 
   pub joins : Joins t i (join t i)
-  joins = ⊎-elim (λ (e : eqb (lastFree t) 0 ≡ true). rw (join-none e) (joins-none e)) (λ (e : eqb (lastFree t) 0 ≡ false). rw (join-some e) (joins-some e)) (tested (eqb (lastFree t) 0))
+  unfolding join
+  joins = record {
+    sameLength = length-putEnds wipe (suc i) end ∙ length-putCell t i (freeCell (firstFree t));
+    sameCapacity = capacity-putEnds wipe (suc i) end ∙ capacity-putCell t i (freeCell (firstFree t)) refl;
+    pastCells = past-putEnds wipe (capacity t) (suc i) end ∙ past-putCell t (capacity t) i (freeCell (firstFree t)) refl l;
+    newFirst = firstFree-putEnds wipe (suc i) end long;
+    newLast = lastFree-putEnds wipe (suc i) end long;
+    next = word-putEnds wipe (suc i) end i left ∙ cell-word t i (freeCell (firstFree t)) refl inside left (omega arith);
+    wiped = λ k m h. word-putEnds wipe (suc i) end i k ∙ cell-word t i (freeCell (firstFree t)) refl inside k h ∙ free-word (firstFree t) k m h;
+    unchanged = λ j k m d. word-putEnds wipe (suc i) end j k ∙ cell-other t i (freeCell (firstFree t)) refl j k m (λ x. d (sym x));
+  }
 
   -- the chain is one cell longer
-  pub join-linked : (is : List ℕ) → Linked t (firstFree t) is → lastOf (map suc is) ≡ lastFree t → ((j : ℕ) → occurrences j is + occurrences j (i ∷ []) ≤ 1)
-      → Linked (join t i) (firstFree (join t i)) (is ++ (i ∷ [])) × (lastOf (map suc (is ++ (i ∷ []))) ≡ lastFree (join t i))
+  pub join-linked : (is : List ℕ) → Linked t (firstFree t) is → lastOf (map suc is) ≡ lastFree t → occurrences i is ≡ 0
+      → Linked (join t i) (firstFree (join t i)) (i ∷ is) × (lastOf (map suc (i ∷ is)) ≡ lastFree (join t i))
   unfolding lastOf
-  join-linked [] h e once = ((joins .newFirst (sym e), rw (joins .sameCapacity) l, joins .wiped left (omega arith) (λ _ d. omega arith)), sym (joins .newLast))
-  join-linked (x ∷ xs) h e once = (
-    rw (joins .sameFirst (λ z. last-some x xs (e ∙ z)))
-        (linked-snoc t (join t i) i (joins .sameCapacity) l (joins .wiped left (omega arith) (λ _. not-last))
-        (firstFree t) x xs h (λ j n m. joins .stands j left (omega arith) m (λ _ z. n (z ∙ sym e))) (λ j d. joins .linkedOn j (sym e ∙ d)) once),
-    lastOf-snoc (x ∷ xs) i ∙ sym (joins .newLast),
+  join-linked is h e n = (
+    (
+      joins .newFirst,
+      rw (joins .sameCapacity) l,
+      rw (joins .next)
+          (linked-unchanged t (join t i) i (joins .sameCapacity) (λ j d. joins .unchanged j left (omega arith) d) (firstFree t) is n h),
+    ),
+    last is h e ∙ sym (joins .newLast),
   )
     where
-      not-last : suc i ≢ lastFree t
-      not-last d = omega (arith, last-occurs (x ∷ xs) i (e ∙ sym d), once i, occurs-first i [])
+      last : (is : List ℕ) → Linked t (firstFree t) is → lastOf (map suc is) ≡ lastFree t → lastOf (map suc (i ∷ is)) ≡ end
+      last [] g d = rw g
+      last (x ∷ xs) g d = let n : firstFree t ≢ 0 = λ z. omega (arith, g .0) in rw (ne-eqb (firstFree t) 0 n) d
 
 contains-none : (i : ℕ) → contains [] i ≡ true → ⊥
 unfolding contains
 contains-none i h = false≢true h
-
-occurrences-nil : (x : ℕ) → occurrences x [] ≡ 0
-unfolding occurrences
-occurrences-nil x = refl
 
 -- what joining a list of cells does
 pub record JoinsAll (t : List ℕ) (dead : List ℕ) (t′ : List ℕ) : Type 0 where
@@ -246,58 +171,51 @@ pub record JoinsAll (t : List ℕ) (dead : List ℕ) (t′ : List ℕ) : Type 0 
   pub sameCapacity : capacity t′ ≡ capacity t
   pub pastCells : drop (tableLength (capacity t)) t′ ≡ drop (tableLength (capacity t)) t
   pub freed : (i k : ℕ) → contains dead i ≡ true → right ≤ k → k < stride → wordAt t′ i k ≡ 0
-  pub stands : (i k : ℕ) → k < stride → contains dead i ≡ false → (k ≡ left → suc i ≢ lastFree t) → wordAt t′ i k ≡ wordAt t i k
+  pub unchanged : (i k : ℕ) → k < stride → contains dead i ≡ false → wordAt t′ i k ≡ wordAt t i k
   pub joined : (is : List ℕ) → Linked t (firstFree t) is → lastOf (map suc is) ≡ lastFree t → ((i : ℕ) → occurrences i is + occurrences i dead ≤ 1)
-      → Linked t′ (firstFree t′) (is ++ dead) × (lastOf (map suc (is ++ dead)) ≡ lastFree t′)
+      → Linked t′ (firstFree t′) (dead ++ is) × (lastOf (map suc (dead ++ is)) ≡ lastFree t′)
 
-module _ (t u v : List ℕ) (i : ℕ) (dead : List ℕ) (j : Joins t i u) (a : JoinsAll u dead v) where
+module _ (t u v : List ℕ) (i : ℕ) (dead : List ℕ) (a : JoinsAll t dead u) (j : Joins u i v) where
   freed-then : (x k : ℕ) → contains (i ∷ dead) x ≡ true → right ≤ k → k < stride → wordAt v x k ≡ 0
-  freed-then x k m low high = ⊎-elim (λ e. a .freed x k e low high) here (tested (contains dead x))
+  freed-then x k m low high = ⊎-elim (λ e. rw (← eqb-true i x e) (j .wiped k low high)) (λ e. other e) (tested (eqb i x))
     where
-      here : contains dead x ≡ false → wordAt v x k ≡ 0
-      here e =
-          let same : i ≡ x = eqb-true i x (⊎-elim (λ d. d) (λ d. absurd (not-both d e)) (or-true (eqb i x) (contains dead x) (rw contains-cons at m))) in
-          a .stands x k (omega arith) e (λ z. absurd (omega arith)) ∙ rw (← same) (j .wiped k (omega arith) (λ z. absurd (omega arith)))
+      other : eqb i x ≡ false → wordAt v x k ≡ 0
+      other e =
+          j .unchanged x k high (λ d. eqb-false i x e (sym d))
+          ∙ a .freed x k (⊎-elim (λ d. absurd (not-both d e)) (λ d. d) (or-true (eqb i x) (contains dead x) (rw contains-cons at m))) low high
 
-  stands-then : (x k : ℕ) → k < stride → contains (i ∷ dead) x ≡ false → (k ≡ left → suc x ≢ lastFree t) → wordAt v x k ≡ wordAt t x k
-  stands-then x k l m c =
+  unchanged-then : (x k : ℕ) → k < stride → contains (i ∷ dead) x ≡ false → wordAt v x k ≡ wordAt t x k
+  unchanged-then x k l m =
       let o = or-false (eqb i x) (contains dead x) (rw contains-cons at m) in
-      let other : x ≢ i = λ e. eqb-false i x (o .0) (sym e) in
-      a .stands x k l (o .1) (λ z d. other (omega (arith, j .newLast))) ∙ j .stands x k l other c
+      j .unchanged x k l (λ e. eqb-false i x (o .0) (sym e)) ∙ a .unchanged x k l (o .1)
 
-  joins-then : ((is : List ℕ) → Linked t (firstFree t) is → lastOf (map suc is) ≡ lastFree t → ((x : ℕ) → occurrences x is + occurrences x (i ∷ []) ≤ 1)
-      → Linked u (firstFree u) (is ++ (i ∷ [])) × (lastOf (map suc (is ++ (i ∷ []))) ≡ lastFree u))
-      → JoinsAll t (i ∷ dead) v
-  joins-then linked = record {
-    sameLength = a .sameLength ∙ j .sameLength;
-    sameCapacity = a .sameCapacity ∙ j .sameCapacity;
-    pastCells = (rw (j .sameCapacity) at (a .pastCells)) ∙ j .pastCells;
-    freed = freed-then;
-    stands = stands-then;
-    joined = λ is h e once. joined-then is (linked is h e (λ x. omega (arith, once x, occurrences-cons x i dead, occurrences-cons x i [], occurrences-nil x))) once;
-  }
-    where
-      joined-then : (is : List ℕ) → Linked u (firstFree u) (is ++ (i ∷ [])) × (lastOf (map suc (is ++ (i ∷ []))) ≡ lastFree u) → ((x : ℕ) → occurrences x is + occurrences x (i ∷ dead) ≤ 1)
-          → Linked v (firstFree v) (is ++ (i ∷ dead)) × (lastOf (map suc (is ++ (i ∷ dead))) ≡ lastFree v)
-      joined-then is n once =
-          rw append-snoc at (a .joined (is ++ (i ∷ [])) (n .0) (n .1)
-          (λ x. omega (arith, once x, occurrences-append x is (i ∷ []), occurrences-cons x i dead, occurrences-cons x i [], occurrences-nil x)))
-
-joins-all : (t : List ℕ) (dead : List ℕ) → tableLength (capacity t) ≤ length t → Indices (capacity t) dead → lastFree t ≤ capacity t → JoinsAll t dead (joinAll t dead)
+joins-all : (t : List ℕ) (dead : List ℕ) → tableLength (capacity t) ≤ length t → Indices (capacity t) dead → JoinsAll t dead (joinAll t dead)
 unfolding joinAll
-joins-all t [] f p b = record {
+joins-all t [] f p = record {
   sameLength = refl;
   sameCapacity = refl;
   pastCells = refl;
   freed = λ i k m. absurd (contains-none i m);
-  stands = λ i k l m c. refl;
-  joined = λ is h e once. rw append-nil (h, e);
+  unchanged = λ i k l m. refl;
+  joined = λ is h e once. (h, e);
 }
-joins-all t (i ∷ dead) f p b =
-    let j = joins t i f (p .0) b in
-    joins-then t (join t i) (joinAll (join t i) dead) i dead j
-    (joins-all (join t i) dead (rw (j .sameCapacity, j .sameLength) f) (rw (j .sameCapacity) (p .1)) (rw (j .newLast, j .sameCapacity) (p .0)))
-    (join-linked t i f (p .0) b)
+joins-all t (i ∷ dead) f p =
+    let u = joinAll t dead in
+    let a = joins-all t dead f (p .1) in
+    let g : tableLength (capacity u) ≤ length u = rw (a .sameCapacity, a .sameLength) f in
+    let b : i < capacity u = rw (a .sameCapacity) (p .0) in
+    let j = joins u i g b in
+    record {
+      sameLength = j .sameLength ∙ a .sameLength;
+      sameCapacity = j .sameCapacity ∙ a .sameCapacity;
+      pastCells = (rw (a .sameCapacity) at (j .pastCells)) ∙ a .pastCells;
+      freed = freed-then t u (join u i) i dead a j;
+      unchanged = unchanged-then t u (join u i) i dead a j;
+      joined = λ is h e once.
+          let n = a .joined is h e (λ x. omega (arith, once x, occurrences-cons x i dead)) in
+          join-linked u i g b (dead ++ is) (n .0) (n .1)
+          (omega (arith, once i, occurrences-cons i i dead, matching-same i i 1 refl, occurrences-append i dead is));
+    }
 
 -- a chain is a chain in a table that differs only in cell counts
 linked-alike : (t u : List ℕ) → SameButCounts t u → (w : ℕ) (is : List ℕ) → Linked t w is → Linked u w is
@@ -306,18 +224,18 @@ linked-alike t u s w (i ∷ is) h =
     (h .0, rw (s .sameCapacity) (h .1), rw (s .sameWords i left (omega arith) (omega arith)) (linked-alike t u s (wordAt t i left) is (h .2)))
 
 -- the sweep's meaning
-pub sweeps : (t : List ℕ) (dead : List ℕ) → tableLength (capacity t) ≤ length t → Indices (capacity t) dead → lastFree t ≤ capacity t → Sweep t dead (swept t dead)
+pub sweeps : (t : List ℕ) (dead : List ℕ) → tableLength (capacity t) ≤ length t → Indices (capacity t) dead → Sweep t dead (swept t dead)
 unfolding swept
-sweeps t dead f p b =
+sweeps t dead f p =
     let u = lowerPointers t dead in
     let s = alike-lower t dead in
-    let a = joins-all u dead (rw (s .sameCapacity, s .sameLength) f) (rw (s .sameCapacity) p) (rw (s .sameLast, s .sameCapacity) b) in
+    let a = joins-all u dead (rw (s .sameCapacity, s .sameLength) f) (rw (s .sameCapacity) p) in
     record {
       sameLength = a .sameLength ∙ s .sameLength;
       sameCapacity = a .sameCapacity ∙ s .sameCapacity;
       pastCells = (rw (s .sameCapacity) at (a .pastCells)) ∙ s .pastCells;
       freed = a .freed;
-      lowered = λ i l m. a .stands i cellCount (omega arith) m (λ z. absurd (omega arith)) ∙ count-lower t dead f i l;
-      stands = λ i k l n m c. a .stands i k l m (λ z. rw (s .sameLast) (c z)) ∙ s .sameWords i k l n;
+      lowered = λ i l m. a .unchanged i cellCount (omega arith) m ∙ count-lower t dead f i l;
+      unchanged = λ i k l n m. a .unchanged i k l m ∙ s .sameWords i k l n;
       joined = λ is h e once. a .joined is (rw (s .sameFirst) (linked-alike t u s (firstFree t) is h)) (e ∙ sym (s .sameLast)) once;
     }

@@ -166,10 +166,6 @@ pub past-putCell : (t : List ℕ) (c i : ℕ) (ws : List ℕ) → length ws ≡ 
 past-putCell t c i ws e h =
     cell-keeps (λ u. drop (tableLength c) u ≡ drop (tableLength c) t) t i ws e (λ u k v hk g. past-putWord u c i k v h hk ∙ g) refl
 
-pub inside-putCell : (t : List ℕ) (i : ℕ) (ws : List ℕ) (j : ℕ) → Inside t j → Inside (putCell t i ws) j
-unfolding Inside
-inside-putCell t i ws j f = rw length-putCell f
-
 -- a free cell's words behind left are 0
 pub free-word : (next k : ℕ) → right ≤ k → k < stride → getD (freeCell next) k 0 ≡ 0
 free-word next zero l h = absurd (omega arith)

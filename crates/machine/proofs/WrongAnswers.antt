@@ -87,6 +87,7 @@ wrong-answers = record {
   freshes = all-only table.fresh-entries refl;
   steps = all-only table.step-entries refl;
   hanging = all-only table.hanging-entries refl;
+  warm = all-only table.warm-entries refl;
   place-63 = all-only table.ring-entries refl;
   audits = all-only table.audit-entries refl;
   S1 = all-only table.S1-entries refl;

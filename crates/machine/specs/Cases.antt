@@ -1,5 +1,6 @@
--- The worked cases of document 01, K1 to K11 and the full queue, as one table of the machine's definition, K11 as document 02 (A1) has it; and
--- cases that tell the machine from slips which K1 to K11 do not show. Each is proved by computation.
+-- The worked cases of document 01, K1 to K11 and the full queue, as one table of the machine's definition, with what
+-- document 02 amends: K11 by A1, K1's table by A8. And cases that tell the machine from slips which K1 to K11 do not show.
+-- Each is proved by computation.
 use mathlib.Core.Path.{_≡_}
 use mathlib.Core.List.{List, [], _∷_, _++_}
 use Prim.Native.Nat.{ℕ}
@@ -47,7 +48,7 @@ K1-replies =
     ∷ applied 2 0 ∷ applied 2 0 ∷ applied 4 0 ∷ applied 6 0 ∷ applied 5 2 ∷ idle ∷ []
 
 abbrev pub K1-table : List ℕ
-K1-table = tableOf 3 2 (freeCell 2 ∷ freeCell 0 ∷ freeCell 1 ∷ []) []
+K1-table = tableOf 1 3 (freeCell 2 ∷ freeCell 3 ∷ freeCell 0 ∷ []) []
 
 -- these calls with 64 packets waiting and no cell free
 abbrev when-full : List Call → List Reply → Case
@@ -145,7 +146,15 @@ nil-reads =
     ∷ walk-of-three
     ∷ []
 
+-- two cells freed in two steps and taken again: the one freed last comes first, and both before a cell that was never used
+abbrev warm-cells : Case
+warm-cells =
+    case
+    (fresh 3 ∷ row (cons 0 0) ∷ row (cons 0 0) ∷ row (down 1 1) ∷ row (down 2 1) ∷ step ∷ step ∷ step ∷ step
+    ∷ row (cons 0 0) ∷ row (cons 0 0) ∷ row (cons 0 0) ∷ [])
+    (value 0 ∷ value 1 ∷ value 2 ∷ value 0 ∷ value 0 ∷ applied 2 0 ∷ applied 2 0 ∷ applied 5 1 ∷ applied 5 1 ∷ value 2 ∷ value 1 ∷ value 3 ∷ [])
+
 pub record More-cases : Type 0 where
-  pub replies : AllHold (values ∷ case detach-calls detach-replies ∷ protected ∷ audit-cases)
+  pub replies : AllHold (values ∷ case detach-calls detach-replies ∷ protected ∷ warm-cells ∷ audit-cases)
   pub nil-reads : AllHold nil-reads
   pub detach-ends : run unmade detach-calls .table ≡ detach-table

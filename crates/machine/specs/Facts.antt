@@ -108,11 +108,11 @@ pub record Sweep (t : List ℕ) (dead : List ℕ) (t′ : List ℕ) : Type 0 whe
   pub freed : (i k : ℕ) → contains dead i ≡ true → right ≤ k → k < stride → wordAt t′ i k ≡ 0
   -- each pointer out of a freed cell lowers a cell count
   pub lowered : (i : ℕ) → i < capacity t → contains dead i ≡ false → wordAt t′ i cellCount ≡ wordAt t i cellCount - pointersOut t dead (suc i)
-  -- every other word of a cell that is not freed stands, but for the left word of the chain's end
-  pub stands : (i k : ℕ) → k < stride → k ≢ cellCount → contains dead i ≡ false → (k ≡ left → suc i ≢ lastFree t) → wordAt t′ i k ≡ wordAt t i k
-  -- the freed cells join the chain at its end, in their order
+  -- every other word of a cell that is not freed is unchanged
+  pub unchanged : (i k : ℕ) → k < stride → k ≢ cellCount → contains dead i ≡ false → wordAt t′ i k ≡ wordAt t i k
+  -- the freed cells join the chain at its front, in their order
   pub joined : (is : List ℕ) → Linked t (firstFree t) is → lastOf (map suc is) ≡ lastFree t → ((i : ℕ) → occurrences i is + occurrences i dead ≤ 1)
-      → Linked t′ (firstFree t′) (is ++ dead) × (lastOf (map suc (is ++ dead)) ≡ lastFree t′)
+      → Linked t′ (firstFree t′) (dead ++ is) × (lastOf (map suc (dead ++ is)) ≡ lastFree t′)
 
 -- Fresh: what any table t becomes.
 pub record FreshTable (c : ℕ) (t t′ : List ℕ) : Type 0 where
@@ -137,6 +137,6 @@ pub record Meanings : Type 0 where
   pub undoing : (t : List ℕ) (ps : List Packet) → (pointersSound t ps ≡ true) ↔ ((v : List ℕ) × (vs : List (List ℕ)) × Undoing t ps v vs)
   -- the cells that a step frees, and what becomes of a table that has the words for its cells
   pub dead : (t : List ℕ) → Dead t (unreached t)
-  pub sweep : (t : List ℕ) → tableLength (capacity t) ≤ length t → lastFree t ≤ capacity t → Sweep t (unreached t) (swept t (unreached t))
+  pub sweep : (t : List ℕ) → tableLength (capacity t) ≤ length t → Sweep t (unreached t) (swept t (unreached t))
   -- fresh, of any table that is long enough
   pub fresh : (c : ℕ) (t : List ℕ) → tableLength c ≤ length t → FreshTable c t (freshTable c t)

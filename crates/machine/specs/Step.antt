@@ -50,22 +50,19 @@ applyPacket t p = named minus (applyChanges t (changes p)) p
 unfoldable pub unreached : List ℕ → List ℕ
 unreached t = select (capacity t) (λ i. inUse t i && not (reached t i))
 
--- each pointer out of the cells at these indices lowers a cell count
+-- each pointer out of the cells at these indices lowers a cell count, first those of the last index, as the cells join
 unfoldable pub lowerPointers : List ℕ → List ℕ → List ℕ
 lowerPointers t [] = t
-lowerPointers t (i ∷ is) = lowerPointers (moveCount (moveCount t cell (wordAt t i left) minus 1) cell (wordAt t i right) minus 1) is
+lowerPointers t (i ∷ is) = let u = lowerPointers t is in moveCount (moveCount u cell (wordAt u i left) minus 1) cell (wordAt u i right) minus 1
 
--- append_cell: a cell joins the free chain at its end, all its words 0
+-- append_cell, as document 02, A8, amends it: a cell joins the free chain at its front, its other words 0; into an empty chain it is the last too
 unfoldable pub join : List ℕ → ℕ → List ℕ
-join t i =
-    let wiped = putCell t i (freeCell 0) in
-    cond (eqb (lastFree t) 0)
-    (putEnds wiped (suc i) (suc i))
-    (putEnds (putWord wiped (pred (lastFree t)) left (suc i)) (firstFree t) (suc i))
+join t i = putEnds (putCell t i (freeCell (firstFree t))) (suc i) (cond (eqb (firstFree t) 0) (suc i) (lastFree t))
 
+-- the cells at these indices join, the last index first, so that the first index is first of all
 unfoldable pub joinAll : List ℕ → List ℕ → List ℕ
 joinAll t [] = t
-joinAll t (i ∷ is) = joinAll (join t i) is
+joinAll t (i ∷ is) = join (joinAll t is) i
 
 -- sweep: the cells at these indices are freed
 unfoldable pub swept : List ℕ → List ℕ → List ℕ

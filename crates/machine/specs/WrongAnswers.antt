@@ -295,6 +295,22 @@ hanging-entries =
     (0 ∷ 0 ∷ 0 ∷ 0 ∷ 9 ∷ []))
     ∷ []
 
+-- Warm cells (document 02, A8): where freed cells join the chain.
+abbrev pub warm-entries : List Entry
+warm-entries =
+    -- three cells freed before a chain of one: at its end, the highest first of all, in the order in which they are met, or with the last end moved
+    gives (store (tableOf 2 2 (cellOf 0 0 0 1 0 ∷ freeCell 0 ∷ cellOf 4 1 1 0 1 ∷ cellOf 0 0 0 1 0 ∷ []) (77 ∷ [])) (only (packet 5 3 1 0))
+    (7 ∷ 7 ∷ 7 ∷ 7 ∷ 9 ∷ [])) step (applied 5 3)
+    (store (tableOf 1 2 (freeCell 3 ∷ freeCell 0 ∷ freeCell 4 ∷ freeCell 2 ∷ []) (77 ∷ [])) (placed emptyQueue 1 0) (0 ∷ 0 ∷ 0 ∷ 0 ∷ 9 ∷ []))
+    -- a cell freed before a chain of two, whose first an earlier step may have freed: behind that one
+    ∷ gives (store (tableOf 1 3 (freeCell 3 ∷ cellOf 0 0 1 0 1 ∷ freeCell 0 ∷ []) (77 ∷ [])) (only (packet 5 2 1 0)) (7 ∷ 7 ∷ 7 ∷ 9 ∷ []))
+    step (applied 5 1)
+    (store (tableOf 2 3 (freeCell 3 ∷ freeCell 1 ∷ freeCell 0 ∷ []) (77 ∷ [])) (placed emptyQueue 1 0) (0 ∷ 0 ∷ 0 ∷ 9 ∷ []))
+    -- two cells freed into an empty chain: the last end 0, or the first of them
+    ∷ gives (store (tableOf 0 0 (cellOf 2 0 1 0 1 ∷ cellOf 0 0 0 1 0 ∷ []) (77 ∷ [])) (only (packet 5 1 1 0)) (7 ∷ 7 ∷ 9 ∷ [])) step (applied 5 2)
+    (store (tableOf 1 2 (freeCell 2 ∷ freeCell 0 ∷ []) (77 ∷ [])) (placed emptyQueue 1 0) (0 ∷ 0 ∷ 9 ∷ []))
+    ∷ []
+
 -- place 63 not followed by 0: a packet taken there, and one appended behind it
 abbrev pub ring-entries : List Entry
 ring-entries =
@@ -489,7 +505,7 @@ unclipped-entries =
     ∷ gives quiet (write 36863 4) (text (ascii "4095")) quiet
     ∷ gives (lent clipped emptyQueue) (row (setLeft 1 0)) (value 36863) (lent (namedSo (withWord clipped 1 left 0) 1 0) (only (packet 3 0 36863 1)))
     ∷ gives (lent (namedSo clipped 1 0) (only (packet 5 1 1 0))) step (applied 5 1)
-    (store (tableOf 2 1 (freeCell 0 ∷ freeCell 1 ∷ []) (77 ∷ [])) (placed emptyQueue 1 0) (0 ∷ 0 ∷ 9 ∷ []))
+    (store (tableOf 1 2 (freeCell 2 ∷ freeCell 0 ∷ []) (77 ∷ [])) (placed emptyQueue 1 0) (0 ∷ 0 ∷ 9 ∷ []))
     ∷ []
 
 -- What no paper decides is how a call ends on a store that passes question 1 and not the audit; what must hold there anyway:
@@ -544,6 +560,7 @@ pub record WrongAnswers : Type 0 where
   pub freshes : AllOnly fresh-entries
   pub steps : AllOnly step-entries
   pub hanging : AllOnly hanging-entries
+  pub warm : AllOnly warm-entries
   pub place-63 : AllOnly ring-entries
   pub audits : AllOnly audit-entries
   pub S1 : AllOnly S1-entries

@@ -18,7 +18,7 @@ use Rattle.machine.specs.Audit.{packetLegal}
 use Rattle.machine.specs.Facts.{Linked, Chain, pointersOut, Sweep}
 use Rattle.machine.proofs.Range.{tested, lt-or-ge, not-both, or-left, or-right, occurrences-append}
 use Rattle.machine.proofs.Table.{free-not-in-use}
-use Rattle.machine.proofs.Lists.{at-most-one, last-occurs, Indices, none-past}
+use Rattle.machine.proofs.Lists.{at-most-one, Indices, none-past}
 use Rattle.machine.proofs.Chain.{linked-indices}
 use Rattle.machine.proofs.Reached.{reached-is}
 use Rattle.machine.proofs.RootsByCell.{Counted, by-queue, by-cell}
@@ -27,8 +27,7 @@ use Rattle.machine.proofs.Sweep.{sweeps}
 use Rattle.soundness.proofs.Views.{View, shown, seen, seen-same, seen-none, Same, All, all-map, earlier, earlier-same, earlier-entry, stages-same}
 use Rattle.soundness.proofs.LegalPackets.{Fit, fit-nil, LegalPacket, WrittenIn, legal-written, named-fit, named-detached, written-map}
 use Rattle.soundness.proofs.Stages.{shown-used, shown-free}
-use Rattle.soundness.proofs.Facts.{Facts, Live, last-within, free-zero, all-below}
-use Rattle.soundness.proofs.FreeChain.{chain-free}
+use Rattle.soundness.proofs.Facts.{Facts, Live, free-zero, all-below}
 use Rattle.soundness.proofs.NameCounts.{none-named}
 use Rattle.soundness.proofs.ReachedCells.{points-by, points-cases, reached-used, reached-grows}
 use Rattle.soundness.proofs.Masks.{mask, masked, unmasked, WritesShown, mask-earlier, unwritten-earlier, seen-split, mask-stages, out-seen}
@@ -54,7 +53,7 @@ module _ (t : List ℕ) (ps : List Packet) (f : Facts t ps) (n : Counted t ps) w
   dead-below = select-indices c doomed
 
   sweep : Sweep t dead u
-  sweep = sweeps t dead (f .room) dead-below (last-within t (f .free) (f .chain))
+  sweep = sweeps t dead (f .room) dead-below
 
   live-reached : (i : ℕ) → live i ≡ true → ReachedByQueue t ps i
   live-reached i h = by-queue t ps n (reached-is t i .0 h)
@@ -78,15 +77,11 @@ module _ (t : List ℕ) (ps : List Packet) (f : Facts t ps) (n : Counted t ps) w
   free-not-dead : (i : ℕ) → inUse t i ≡ false → contains dead i ≡ false
   free-not-dead i h = not-dead i (λ e. not-both (dead-is t .members i .0 e .1) h)
 
-  -- the end of the chain is free
-  not-end : (i : ℕ) → i < c → inUse t i ≡ true → suc i ≢ lastFree t
-  not-end i l h e = not-both h (free-not-in-use t i (chain-free t (f .free) (f .chain) i l (last-occurs (f .free) i (f .chain .ends ∙ sym e))))
+  live-words : (i k : ℕ) → k < stride → k ≢ cellCount → live i ≡ true → wordAt u i k ≡ wordAt t i k
+  live-words i k m n h = sweep .unchanged i k m n (live-not-dead i h)
 
-  live-words : (i k : ℕ) → i < c → k < stride → k ≢ cellCount → live i ≡ true → wordAt u i k ≡ wordAt t i k
-  live-words i k l m n h = sweep .stands i k m n (live-not-dead i h) (λ _. not-end i l (live-used i h))
-
-  free-words : (i k : ℕ) → k < stride → k ≢ cellCount → k ≢ left → inUse t i ≡ false → wordAt u i k ≡ wordAt t i k
-  free-words i k m n d h = sweep .stands i k m n (free-not-dead i h) (λ e. absurd (d e))
+  free-words : (i k : ℕ) → k < stride → k ≢ cellCount → inUse t i ≡ false → wordAt u i k ≡ wordAt t i k
+  free-words i k m n h = sweep .unchanged i k m n (free-not-dead i h)
 
   -- in three ways: reached, dead, free
   each-sort : (P : ℕ → Type 0) → ((i : ℕ) → live i ≡ true → P i) → ((i : ℕ) → live i ≡ false → inUse t i ≡ true → P i)
@@ -100,24 +95,24 @@ module _ (t : List ℕ) (ps : List Packet) (f : Facts t ps) (n : Counted t ps) w
   pub swept-use : (i : ℕ) → i < c → inUse u i ≡ reached t i
   unfolding inUse
   swept-use = each-sort (λ i. i < c → ltb 0 (wordAt u i state) ≡ live i)
-      (λ i h l. ap (ltb 0) (live-words i state l (omega arith) (omega arith) h) ∙ live-used i h ∙ sym h)
+      (λ i h l. ap (ltb 0) (live-words i state (omega arith) (omega arith) h) ∙ live-used i h ∙ sym h)
       (λ i h e l. le-ltb 0 (wordAt u i state) (omega (arith, sweep .freed i state (is-dead i l e h) (omega arith) (omega arith))) ∙ sym h)
-      (λ i h e l. ap (ltb 0) (free-words i state (omega arith) (omega arith) (omega arith) e) ∙ e ∙ sym h)
+      (λ i h e l. ap (ltb 0) (free-words i state (omega arith) (omega arith) e) ∙ e ∙ sym h)
 
   used-live : (i : ℕ) → i < c → inUse u i ≡ true → live i ≡ true
   used-live i l h = sym (swept-use i l) ∙ h
 
   -- they were in use before, with the same fields
   pub swept-fields : (i : ℕ) → i < c → inUse u i ≡ true → (inUse t i ≡ true) × ((k : ℕ) → k ≤ right → wordAt u i k ≡ wordAt t i k)
-  swept-fields i l h = let e = used-live i l h in (live-used i e, λ k m. live-words i k l (omega arith) (omega arith) e)
+  swept-fields i l h = let e = used-live i l h in (live-used i e, λ k m. live-words i k (omega arith) (omega arith) e)
 
   -- no root count changes: a dead cell is no root
   pub swept-root : (i : ℕ) → i < c → wordAt u i rootCount ≡ wordAt t i rootCount
   unfolding isRootByQueue
   swept-root = each-sort (λ i. i < c → wordAt u i rootCount ≡ wordAt t i rootCount)
-      (λ i h l. live-words i rootCount l (omega arith) (omega arith) h)
+      (λ i h l. live-words i rootCount (omega arith) (omega arith) h)
       (λ i h e l. sweep .freed i rootCount (is-dead i l e h) (omega arith) (omega arith) ∙ sym (no-root i l h))
-      (λ i h e l. free-words i rootCount (omega arith) (omega arith) (omega arith) e)
+      (λ i h e l. free-words i rootCount (omega arith) (omega arith) e)
     where
       no-root : (i : ℕ) → i < c → live i ≡ false → wordAt t i rootCount ≡ 0
       no-root i l h =
@@ -153,7 +148,7 @@ module _ (t : List ℕ) (ps : List Packet) (f : Facts t ps) (n : Counted t ps) w
 
   field-fits : (i k : ℕ) → i < c → k ≤ right → live i ≡ true → Fit u (wordAt u i k)
   field-fits i k l m h =
-      rw (live-words i k l (omega arith) (omega arith) h) (live-fit (wordAt t i k) (f .fields i k l m (live-used i h))
+      rw (live-words i k (omega arith) (omega arith) h) (live-fit (wordAt t i k) (f .fields i k l m (live-used i h))
       (λ j b e. reached-live (onward (live-reached i h) b (points-by t i j k m e))))
 
   -- the chain is longer by the dead cells
@@ -168,7 +163,7 @@ module _ (t : List ℕ) (ps : List Packet) (f : Facts t ps) (n : Counted t ps) w
       (λ i h e l. let a = f .chain .once i l in let b = dead-once i l in rw (swept-use i l, h) (omega (arith, rw e at a, rw (e, h) at b)))
       (λ i h e l. let a = f .chain .once i l in let b = dead-once i l in rw (swept-use i l, h) (omega (arith, rw e at a, rw e at b)))
 
-  linked-all : Linked u (firstFree u) (f .free ++ dead) × (lastOf (map suc (f .free ++ dead)) ≡ lastFree u)
+  linked-all : Linked u (firstFree u) (dead ++ f .free) × (lastOf (map suc (dead ++ f .free)) ≡ lastFree u)
   linked-all = sweep .joined (f .free) (f .chain .linked) (f .chain .ends) (λ i. ⊎-elim (λ l. rw (both-once i l) (at-most-one (isFree u i)))
       (λ l. omega (arith, none-past c (f .free) (linked-indices t (firstFree t) (f .free) (f .chain .linked)) i l, none-past c dead dead-below i l)) (lt-or-ge i c))
 
@@ -177,7 +172,7 @@ module _ (t : List ℕ) (ps : List Packet) (f : Facts t ps) (n : Counted t ps) w
   wiped i k l h low high = ⊎-elim (λ e. sweep .freed i k (is-dead i l e h) low high) free (tested (inUse t i))
     where
       free : inUse t i ≡ false → wordAt u i k ≡ 0
-      free e = ⊎-elim count (λ d. free-words i k (omega arith) d (omega arith) e ∙ free-zero t ps f i k l e low high) (is-count k)
+      free e = ⊎-elim count (λ d. free-words i k (omega arith) d e ∙ free-zero t ps f i k l e low high) (is-count k)
         where
           is-count : (k : ℕ) → (k ≡ cellCount) ⊎ (k ≢ cellCount)
           is-count k = ⊎-elim (λ d. inl (eqb-true k cellCount d)) (λ d. inr (eqb-false k cellCount d)) (tested (eqb k cellCount))
@@ -185,11 +180,11 @@ module _ (t : List ℕ) (ps : List Packet) (f : Facts t ps) (n : Counted t ps) w
           count : k ≡ cellCount → wordAt u i k ≡ 0
           count d = rw d (omega (arith, sweep .lowered i l (free-not-dead i e), free-zero t ps f i cellCount l e (omega arith) (omega arith)))
 
-  chain-after : Chain u (f .free ++ dead)
+  chain-after : Chain u (dead ++ f .free)
   chain-after = record {
     linked = linked-all .0;
     ends = linked-all .1;
-    once = rw swept-capacity (λ (i : ℕ) (l : i < c). occurrences-append i (f .free) dead ∙ both-once i l);
+    once = rw swept-capacity (λ (i : ℕ) (l : i < c). omega (arith, occurrences-append i dead (f .free), both-once i l));
     wiped = rw swept-capacity (λ (i k : ℕ) (l : i < c) (e : isFree u i ≡ true). wiped i k l (sym (swept-use i l) ∙ free-not-in-use u i e));
   }
 
@@ -199,7 +194,7 @@ module _ (t : List ℕ) (ps : List Packet) (f : Facts t ps) (n : Counted t ps) w
     where
       here : live i ≡ true → shown u i k ≡ mask live (shown t) i k
       here h =
-          shown-used u i k (swept-use i l ∙ h) ∙ live-words i k l (omega arith) (omega arith) h
+          shown-used u i k (swept-use i l ∙ h) ∙ live-words i k (omega arith) (omega arith) h
           ∙ sym (shown-used t i k (live-used i h)) ∙ sym (unmasked live (shown t) i k h)
 
   shows-earlier : Same c (earlier (shown u) ps) (mask live (earlier (shown t) ps))
@@ -257,13 +252,13 @@ module _ (t : List ℕ) (ps : List Packet) (f : Facts t ps) (n : Counted t ps) w
     some = rw swept-capacity (f .some);
     most = rw swept-capacity (f .most);
     room = rw (swept-capacity, sweep .sameLength) (f .room);
-    states = rw swept-capacity (λ (i : ℕ) (l : i < c). ⊎-elim (λ h. rw (live-words i state l (omega arith) (omega arith) h) (f .states i l))
+    states = rw swept-capacity (λ (i : ℕ) (l : i < c). ⊎-elim (λ h. rw (live-words i state (omega arith) (omega arith) h) (f .states i l))
         (λ h. omega (arith, wiped i state l h (omega arith) (omega arith))) (tested (live i)));
     roots = rw swept-capacity (λ (i : ℕ) (l : i < c). rw (swept-root i l) (f .roots i l));
     cells = rw swept-capacity (λ (i : ℕ) (l : i < c). ⊎-elim (λ h. omega (arith, sweep .lowered i l (live-not-dead i h), f .cells i l))
         (λ h. omega (arith, wiped i cellCount l h (omega arith) (omega arith))) (tested (live i)));
     fields = rw swept-capacity (λ (i k : ℕ) (l : i < c) (m : k ≤ right) (e : inUse u i ≡ true). field-fits i k l m (used-live i l e));
-    free = f .free ++ dead;
+    free = dead ++ f .free;
     chain = chain-after;
     legal = legal-after;
     replay = rw swept-capacity (λ (i : ℕ) (l : i < c). rw (swept-root i l) (f .replay i l));
@@ -275,9 +270,9 @@ module _ (t : List ℕ) (ps : List Packet) (f : Facts t ps) (n : Counted t ps) w
   -- no name count changes either: a dead cell is not named
   pub swept-counted : Counted u ps
   swept-counted = rw swept-capacity (each-sort (λ i. i < c → wordAt u i nameCount ≡ timesNamed ps (suc i))
-      (λ i h l. live-words i nameCount l (omega arith) (omega arith) h ∙ n i l)
+      (λ i h l. live-words i nameCount (omega arith) (omega arith) h ∙ n i l)
       (λ i h e l. wiped i nameCount l h (omega arith) (omega arith) ∙ sym (none-named ps (suc i) (unnamed i l h)))
-      (λ i h e l. free-words i nameCount (omega arith) (omega arith) (omega arith) e ∙ n i l))
+      (λ i h e l. free-words i nameCount (omega arith) (omega arith) e ∙ n i l))
     where
       unnamed : (i : ℕ) → i < c → live i ≡ false → isNamed ps (suc i) ≡ false
       unnamed i l h = ⊎-elim (λ e. absurd (not-both (named-live (suc i) i l refl e) h)) (λ e. e) (tested (isNamed ps (suc i)))
@@ -294,4 +289,4 @@ module _ (t : List ℕ) (ps : List Packet) (f : Facts t ps) (n : Counted t ps) w
       edges j i r l e =
           let w = points-cases t j i e in
           let low = w .1 in
-          inl (points-by u j i (w .0) (w .1) (live-words j (w .0) (reached-used t ps f r .0) (omega arith) (omega arith) (reached-live r) ∙ w .2))
+          inl (points-by u j i (w .0) (w .1) (live-words j (w .0) (omega arith) (omega arith) (reached-live r) ∙ w .2))

@@ -507,18 +507,21 @@ fn step(store: &Store) -> (Store, Reply) {
             }
         }
     }
+    // A8: they stand before the cells that were free, the lowest number first. The
+    // whole chain is laid out anew.
+    let mut chain = dead.clone();
+    chain.extend(free_chain(store));
     for &x in &dead {
         let cell = then.cells.get_mut(&x).unwrap();
         let counts = (cell.root, cell.count, cell.named);
         assert_eq!(counts, (0, 0, 0), "freed with counts");
         *cell = Cell::default();
-        let last = after.table[2];
-        if last == 0 {
-            after.table[1] = x;
-        } else {
-            then.cells.get_mut(&last).unwrap().left = x;
-        }
-        after.table[2] = x;
+    }
+    after.table[1] = chain.first().copied().unwrap_or(0);
+    after.table[2] = chain.last().copied().unwrap_or(0);
+    for (i, x) in chain.iter().enumerate() {
+        let next = chain.get(i + 1).copied().unwrap_or(0);
+        then.cells.get_mut(x).unwrap().left = next;
     }
     put_cells(&mut after, &then);
     for i in 0..store.table[0] as usize {
@@ -529,6 +532,18 @@ fn step(store: &Store) -> (Store, Reply) {
         freed: dead.len() as u16,
     };
     (after, reply)
+}
+
+/// The free cells of a sound store, in the chain's order.
+pub fn free_chain(store: &Store) -> Vec<u16> {
+    let cells = model(store).cells;
+    let mut chain = Vec::new();
+    let mut next = store.table[1];
+    while next != 0 {
+        chain.push(next);
+        next = cells[&next].left;
+    }
+    chain
 }
 
 /// Whether a field of a cell in use is a clipped reading.

@@ -42,13 +42,19 @@ pub fn sample() -> Store {
         Call::Cons(0, 0),
         Call::Cons(0, 0),
         Call::Cons(0, 32_768),
+        Call::Cons(0, 0),
+        Call::Cons(0, 0),
+        Call::Cons(0, 0),
         Call::Up(2, 4),
         Call::Up(5, 1),
         Call::ReplaceRight(2, 2),
-        Call::Down(3, 1),
-        Call::Down(4, 1),
     ] {
         follower.perform(call);
+    }
+    // Given up one after another, each becomes the first of the chain (A8): in the
+    // end it is 6, 7, 8, 3, 4, and the cons below takes 6.
+    for x in [4, 3, 8, 7, 6] {
+        follower.perform(Call::Down(x, 1));
     }
     follower.drain();
     while follower.store.queue.place != 60 {

@@ -1,56 +1,42 @@
 use mathlib.Core.Path.{_≡_, refl}
-use Prim.Native.Nat.{_<_}
-use Prim.Native.Nat.{_-_, _≤_}
+use Prim.Native.Nat.{_≤_}
 use native.Mathlib.Omega.{arith}
 use lib.ListN.{length}
 use borrow.Author.Needs.{needs}
 use Rattle.machine.specs.Table.{capacity}
-use Rattle.collector.specs.SweepPass.{isDead}
-use Rattle.machine.specs.Range.{select}
-use Rattle.collector.proofs.SweepLoop.{at-cell, pass-table, pass-number, sweeps-all}
-use Rattle.collector.proofs.SweepPass.{passedTo, passed-none, length-select-le}
+use Rattle.collector.proofs.SweepPass.{Pass, pass-none, at-cell, few-freed, pass-more, sweeps-all}
 use Rattle.collector.proofs.sweep.sweep.Statement.{statement}
 use Rattle.collector.proofs.sweep.sweep.Tie as tie
 
 abbrev Inv-loop : tie.InvT-loop
-Inv-loop table₀ scratch c end endleft freed₀ i₀ table freed i =
-    (i ≤ c) × (length table ≡ length table₀) × (table ≡ passedTo table₀ scratch i) × (freed ≡ length (select i (isDead table₀ scratch)))
+Inv-loop table₀ scratch freed₀ i₀ table freed i = (i ≤ capacity table₀) × (length table ≡ length table₀) × Pass table₀ scratch i table freed
 
 abbrev μ-loop : tie.MeasureT-loop
-μ-loop table₀ scratch c end endleft freed₀ i₀ table freed i = c - i
+μ-loop table₀ scratch freed₀ i₀ table freed i = i
 
 capacity-of-requires : tie.Need-capacity-of-requires Inv-loop μ-loop
 capacity-of-requires c κs = search needs
 
-last-free-requires : tie.Need-last-free-requires Inv-loop μ-loop
-last-free-requires c κs = search needs
-
-end-left-requires : tie.Need-end-left-requires Inv-loop μ-loop
-end-left-requires c κs = search needs
-
 loop-holds : tie.Need-loop-holds Inv-loop μ-loop
-unfolding select
 loop-holds c =
-    let start = c .before .before .before .before .before .before .before .before in
-    let i = start .args in
-    (omega arith, refl, passed-none (i .table .now) (i .scratch .now), refl)
+    let s = c .before .before .before .before in
+    (omega arith, refl, pass-none (s .args .table .now) (s .args .scratch .now) (s .pre .0) _ (c .capacity-of .ensures))
+
+sub-i : tie.Need-sub-i Inv-loop μ-loop
+sub-i c = search needs
 
 sweep-cell-requires : tie.Need-sweep-cell-requires Inv-loop μ-loop
 sweep-cell-requires c κs =
-    let s = c .before .before .before .before .before .before .before .before .before .before .before in
     let l = c .before .before .loop in
-    at-cell (s .args .table .now) (s .args .scratch .now) (s .pre .0) (l .i) (omega arith) (s .pre .1) (l .table) (l .inv .2)
+    let s = c .before .before .before .before .before .before .before in
+    at-cell (s .args .table .now) (s .args .scratch .now) (l .i) _ (omega arith) (omega arith) (l .table) (l .freed) (l .inv .2) (s .pre .1)
 
 add-freed : tie.Need-add-freed Inv-loop μ-loop
 add-freed c =
     let at-loop = c .before .before .before .before .before in
-    let start = at-loop .before .before .before .before .before .before .before .before .before in
     let l = at-loop .loop in
-    let i = start .args in
-    omega (arith, length-select-le (l .i) (isDead (i .table .now) (i .scratch .now)))
-
-add-i : tie.Need-add-i Inv-loop μ-loop
-add-i c = search needs
+    let s = at-loop .before .before .before .before .before in
+    omega (arith, s .pre .0 .most, few-freed (s .args .table .now) (s .args .scratch .now) (l .i) _ (omega arith) (omega arith) (l .table) (l .freed) (l .inv .2) _ _ (c .before .before .sweep-cell .ensures))
 
 loop-less : tie.Need-loop-less Inv-loop μ-loop
 loop-less c = search needs
@@ -58,18 +44,12 @@ loop-less c = search needs
 loop-again : tie.Need-loop-again Inv-loop μ-loop
 loop-again c =
     let at-loop = c .before .before .before .before .before in
-    let at-end-left = at-loop .before in
-    let at-last-free = at-end-left .before .before in
-    let s = at-last-free .before .before .before .before .before .before in
     let l = at-loop .loop in
-    let t = s .args .table .now in
-    let m = s .args .scratch .now in
-    let p = c .before .before .sweep-cell .ensures in
-    let h : l .i < capacity t = omega arith in (
+    let s = at-loop .before .before .before .before .before in (
       omega arith,
       omega arith,
-      pass-table t m (s .pre .0) (l .i) h (l .table) _ _ _ _ (l .inv .2) (at-last-free .last-free .ensures) (at-end-left .end-left .ensures) p,
-      pass-number t m (s .pre .0) (l .i) h (l .table) _ _ _ _ (l .freed) (l .inv .2) p (l .inv .3),
+      pass-more (s .args .table .now) (s .args .scratch .now) (l .i) _ (omega arith) (omega arith) (l .table) (l .freed) (l .inv .2) _ _
+          (c .before .before .sweep-cell .ensures),
     )
 
 same-length : tie.Need-same-length Inv-loop μ-loop
@@ -77,9 +57,9 @@ same-length c = search needs
 
 returns : tie.Need-returns Inv-loop μ-loop
 returns c =
-    let s = c .before .before .before .before .before .before .before .before .before .before in
     let l = c .before .loop in
-    sweeps-all (s .args .table .now) (s .args .scratch .now) (s .pre .0) (l .i) (omega arith) (l .table) (l .freed) (l .inv .2) (l .inv .3)
+    let i = c .before .before .before .before .before .before .args in
+    sweeps-all (i .table .now) (i .scratch .now) (l .i) (l .table) (l .freed) (l .inv .2) (omega arith)
 
 pub sweep-spec : {M : Type 1} → statement M
 sweep-spec =
@@ -88,12 +68,10 @@ sweep-spec =
     Inv-loop
     μ-loop
     capacity-of-requires
-    last-free-requires
-    end-left-requires
     loop-holds
+    sub-i
     sweep-cell-requires
     add-freed
-    add-i
     loop-less
     loop-again
     same-length

@@ -1,8 +1,7 @@
-use mathlib.Core.Path.{sym, ap, _∙_}
+use mathlib.Core.Path.{sym, _∙_}
 use borrow.Author.Needs.{needs}
 use Rattle.marks.proofs.Scratch.{enough-fewer}
-use Rattle.collector.specs.SweepPass.{freed}
-use Rattle.collector.proofs.SweepLoop.{passes-live, passes-dead, marked-live, unmarked-dead}
+use Rattle.collector.proofs.SweepPass.{passes-live, passes-dead, marked-live, unmarked-dead}
 use Rattle.collector.proofs.sweep.sweep_cell.Statement.{statement}
 use Rattle.collector.proofs.sweep.sweep_cell.Tie as tie
 
@@ -14,13 +13,10 @@ returns c =
     let at-is-marked = c .before in
     let start = at-is-marked .before .before .before in
     let i = start .args in
-    passes-live _ _ _ _ _ (marked-live (i .table .now) (i .scratch .now) (i .index) (sym (at-is-marked .is-marked .ensures) ∙ c .if1 .taken))
+    passes-live _ _ _ (marked-live (i .table .now) (i .scratch .now) (i .index) (sym (at-is-marked .is-marked .ensures) ∙ c .if1 .taken))
 
 in-use-requires : tie.Need-in-use-requires
 in-use-requires c κs = search needs
-
-left-before-requires : tie.Need-left-before-requires
-left-before-requires c κs = search needs
 
 free-requires : tie.Need-free-requires
 free-requires c κs = search needs
@@ -30,17 +26,16 @@ same-length c = search needs
 
 returns-2 : tie.Need-returns-2
 returns-2 c =
-    let at-left-before = c .before .before .before .before in
-    let at-if2 = at-left-before .before .before in
+    let at-if2 = c .before .before .before .before in
     let at-in-use = at-if2 .before in
     let at-if1 = at-in-use .before .before in
     let at-is-marked = at-if1 .before in
     let start = at-is-marked .before .before .before in
     let i = start .args in
-    passes-dead _ _ _ _ _
+    passes-dead _ _ _
     (unmarked-dead (i .table .now) (i .scratch .now) (i .index) (sym (at-is-marked .is-marked .ensures) ∙ at-if1 .if1 .left)
     ∙ sym (at-in-use .in-use .ensures) ∙ at-if2 .if2 .taken)
-    _ (c .before .before .free .ensures ∙ ap (freed (i .table .now) (i .index)) (at-left-before .left-before .ensures))
+    _ (c .before .before .free .ensures)
 
 same-length-2 : tie.Need-same-length-2
 same-length-2 c = search needs
@@ -51,7 +46,7 @@ returns-3 c =
     let at-is-marked = at-if1 .before in
     let start = at-is-marked .before .before .before in
     let i = start .args in
-    passes-live _ _ _ _ _
+    passes-live _ _ _
     (unmarked-dead (i .table .now) (i .scratch .now) (i .index) (sym (at-is-marked .is-marked .ensures) ∙ at-if1 .if1 .left)
     ∙ sym (c .before .in-use .ensures) ∙ c .if2 .left)
 
@@ -62,7 +57,6 @@ sweep-cell-spec =
     is-marked-requires
     returns
     in-use-requires
-    left-before-requires
     free-requires
     same-length
     returns-2
