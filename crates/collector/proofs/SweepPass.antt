@@ -62,12 +62,14 @@ module _ (u s : List ℕ) (g : TableShape u) (n : ℕ) (l : n < capacity u) wher
   -- the rest of the pass after the cell at index n
   pub rest : swept (passed u s n) (select n (isDead (passed u s n) s)) ≡ swept u (select (suc n) (isDead u s))
   unfolding passed select
-  rest = go (isDead u s n) refl
+  rest = go (isDead u s n)
     where
-      go : (b : Bool) → isDead u s n ≡ b
+      go : (b : Bool)
           → swept (cond b (swept u (n ∷ [])) u) (select n (isDead (cond b (swept u (n ∷ [])) u) s)) ≡ swept u (select n (isDead u s) ++ cond b (n ∷ []) [])
-      go true e = ap (swept (swept u (n ∷ []))) (select-same n (isDead (swept u (n ∷ [])) s) (isDead u s) still-dead) ∙ sym (swept-last u (select n (isDead u s)) n (g .room) l new)
-      go false e = rw append-nil
+      go true =
+          ap (swept (swept u (n ∷ []))) (select-same n (isDead (swept u (n ∷ [])) s) (isDead u s) still-dead)
+          ∙ sym (swept-last u (select n (isDead u s)) n (g .room) l new)
+      go false = rw append-nil
 
   pub rest-number : cond (isDead u s n) 1 0 + length (select n (isDead (passed u s n) s)) ≡ length (select (suc n) (isDead u s))
   unfolding passed
