@@ -1,5 +1,7 @@
 // The audit: of any store at all, sound or the lowest-numbered rule broken. Each rule is exact where the rules before it hold, which are asked
 // first.
+#![tactic(auto)]
+
 mod live;
 
 ghost use Rattle.machine.specs.Facts.{Lent};

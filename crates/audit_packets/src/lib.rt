@@ -1,5 +1,7 @@
 // S3: slots not waiting are zero; waiting packets have legal kinds and words and name cells in use; replayed oldest first on the root counts,
 // questions 6 and 9 hold each time; each cell's name count is how many times waiting packets name it.
+#![tactic(auto)]
+
 mod legality;
 mod names;
 mod replay;

@@ -1,5 +1,7 @@
 // S4: undo the packets newest first. A replaced field must hold a, and gets b; a new cell must hold a and b, and gets nil twice. At no stage do
 // more than 4,095 pointers meet one cell; at the end the cell counts are the pointers found.
+#![tactic(auto)]
+
 mod earlier;
 mod pointers;
 

@@ -1,5 +1,7 @@
 // The twelve calls of c_store, their operands by place as C hands them over: contracts go by names, so that no proof tells two operands that have changed
 // places. A line has a call, its reply's three numbers, and two words that it left. The expected output is worked by hand from document 01.
+#![tactic(auto)]
+
 use c_layout::Reply;
 use c_layout::queues::QUEUE_WORDS;
 use libc::STDOUT_FILENO;

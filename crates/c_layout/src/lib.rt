@@ -1,4 +1,6 @@
 // What crosses to C: the reply as a struct of a tag and two numbers, and the queue as its words (`queues`). Neither an enum nor an array crosses by value.
+#![tactic(auto)]
+
 pub mod queues;
 
 ghost use Rattle.std.specs.Prelude.{◌≡◌};

@@ -1,5 +1,7 @@
 // The store's calls for programs in C, whose header is include/row_store.h. Each has the store's one promise, on the same table, queue and scratch, for any
 // words, numbers and buffers. A slice crosses as a pointer and a length, the queue as a pointer to its 258 words.
+#![tactic(auto)]
+
 ghost use Rattle.std.specs.Prelude.{[]};
 ghost use Rattle.machine.specs.Calls.{fresh, row, step, audit, read, car, cdr, cons, set_left, set_right, up, down, store};
 ghost use Rattle.machine.specs.Answers.{call_of};

@@ -1,4 +1,6 @@
 // The line of a call, written into a lent buffer from a place on.
+#![tactic(auto)]
+
 ghost use Rattle.std.specs.Prelude.{◌+◌, ◌≤◌, length};
 ghost use Rattle.base_ten.specs.Decimal.{most_digits};
 ghost use Rattle.base_ten.specs.Put.{Put};

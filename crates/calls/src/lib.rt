@@ -2,6 +2,8 @@
 // joins the queue, and only if no question says "no" it writes into the table and its packet's cells are named there. The early questions, 1 to 5 and 14, look
 // at no packet, so a call that one of them refuses hands the queue back as it came; the others are asked of the queue that the packet is to join, so that it is
 // copied once for both.
+#![tactic(auto)]
+
 mod chain;
 mod early;
 mod late;

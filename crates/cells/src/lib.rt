@@ -1,5 +1,7 @@
 // Reading and writing the table: its header, and the cells in the part that begins at word 3, which is lent on to the functions that read and
 // write fields and counts.
+#![tactic(auto)]
+
 mod part;
 
 ghost use Rattle.std.specs.Prelude.{◌≡◌, suc, ◌≤◌, length, set};

@@ -1,4 +1,6 @@
 // The collector's step: the oldest packet is applied, and the cells in use that no root reaches any more are freed.
+#![tactic(auto)]
+
 mod freeing;
 mod sweep;
 

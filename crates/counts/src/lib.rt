@@ -1,4 +1,6 @@
 // Changes of the counters in the table's cells, of 16 bits each: a packet's count changes, and the names that it gives and gives up. Figure 8's rrc_up, rrc_down, crc_up and crc_down, by n at once, are made where the word is a cell: nil and atoms have no counts.
+#![tactic(auto)]
+
 pub mod names;
 
 ghost use Rattle.std.specs.Prelude.{◌≡◌, ◌≤◌, length};

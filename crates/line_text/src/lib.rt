@@ -1,4 +1,6 @@
 // The session's texts: from a line's bytes to what it asks for, and from an answer to an output line. Nothing here calls the store.
+#![tactic(auto)]
+
 pub mod kept;
 pub mod parse;
 pub mod texts;

@@ -1,6 +1,8 @@
 // The load bench's traffic: one line from standard input, calls and replies to standard output. Proved (specs/Threading): what goes from call to call is
 // as load_lines' theorem on whole loads wants it. Not proved, since libc's contracts say nothing of bytes: that what is kept is of the input, and that
 // the output is written.
+#![tactic(auto)]
+
 ghost use Rattle.std.specs.Prelude.{◌≡◌, true, ◌≤◌, length};
 ghost use Rattle.line_text.specs.Kept.{kept_bytes};
 ghost use Rattle.streams.specs.Reading.{Within};

@@ -1,4 +1,6 @@
 // The load program's lines: an input's bytes in, the calls that it asks for and their replies out. The definition of what comes out is specs/Listing.antt.
+#![tactic(auto)]
+
 mod lines;
 
 ghost use Rattle.std.specs.Prelude.{◌≡◌};

@@ -1,4 +1,6 @@
 // The store's declared types, in the forms that document 01 names. What the calls do is the definition in specs/.
+#![tactic(auto)]
+
 ghost use Rattle.std.specs.Prelude.{◌≡◌, ◌-◌};
 ghost use Rattle.machine.specs.Counters.{Raised};
 ghost use Rattle.machine.specs.Queue.{empty_queue};

@@ -1,4 +1,6 @@
 // Marks of the reached cells in the scratch. Only this crate knows how they lie there: callers ask `is_marked`.
+#![tactic(auto)]
+
 mod pending;
 pub mod roots;
 

@@ -2,7 +2,7 @@
 use mathlib.Core.Path.{◌≡◌, refl, ap, ◌∙◌}
 use mathlib.Core.List.{List, [], ◌∷◌, ◌++◌, map, append-nil, append_assoc}
 use Rattle.notation.specs.Trees.{Tree, nil}
-use Rattle.notation.specs.Grammar.{Token, opening, closing, dot, number, Datum, valued, empty, listed, Rest, closed, dotted as behindDot, further}
+use Rattle.notation.specs.Grammar.{Token, opening, closing, dot, number, Datum, valued, empty, listed, Rest, closed, dotted as behind_dot, further}
 use Rattle.notation.specs.Parse.{Mark, token, foreign}
 use Rattle.notation.specs.Parse.{Frame, plain, dotted, full, State, within, outside, deliver, list_of, close_list, on_token, next, parsed_from, start, tree, tree_of}
 use Rattle.notation.proofs.Tall.{stays_outside}
@@ -44,7 +44,7 @@ datum_parsed x = elim x as (λ ts a y. Delivers ts a) (λ us d y. Finishes us d)
   | empty ↦ λ fs. closes_plain [] fs
   | listed {ts} {us} {a} (y → p) (r → q) ↦ λ fs. run_datum ts a p us (plain [] ∷ fs) ∙ q a [] fs
   | closed ↦ λ e es fs. closes_plain (e ∷ es) fs
-  | behindDot {ts} {d} (y → p) ↦ λ e es fs. run_datum ts d p (closing ∷ []) (dotted (e ∷ es) ∷ fs) ∙ closes_full (e ∷ es) d fs
+  | behind_dot {ts} {d} (y → p) ↦ λ e es fs. run_datum ts d p (closing ∷ []) (dotted (e ∷ es) ∷ fs) ∙ closes_full (e ∷ es) d fs
   | further {ts} {us} {a} (y → p) (r → q) ↦ λ e es fs. run_datum ts a p us (plain (e ∷ es) ∷ fs) ∙ q a (e ∷ es) fs
 ]
 
@@ -74,6 +74,7 @@ wants_datum (plain es ∷ []) x w = anything
 wants_datum {us} (plain [] ∷ f ∷ fs) x (onward {us = vs} {ts} r w) = rw (← append_assoc us vs ts) (begun (listed x r) w)
 wants_datum {us} (plain (e ∷ es) ∷ f ∷ fs) x (onward {us = vs} {ts} r w) = rw (← append_assoc us vs ts) (onward (further x r) w)
 wants_datum (dotted es ∷ f ∷ fs) x (end w) = part x w
+wants_datum (full es l ∷ fs) x w = elim w [ ]
 
 wants_outside : {ts : List Token} {t : Tree} {A : Type 0} → Wants outside ts t → A
 wants_outside w = elim w [ ]
@@ -92,7 +93,10 @@ wants_token closing (full es l ∷ f ∷ fs) w = end w
 wants_token closing (dotted es ∷ f ∷ fs) w = wants_outside w
 wants_token dot [] w = unused
 wants_token dot (plain es ∷ []) w = anything
-wants_token dot (plain (e ∷ es) ∷ f ∷ fs) (part {us} {ts} x w) = rw (← append_assoc us (closing ∷ []) ts) (onward (behindDot x) w)
+wants_token dot (plain (e ∷ es) ∷ f ∷ fs) (part {us} {ts} x w) = rw (← append_assoc us (closing ∷ []) ts) (onward (behind_dot x) w)
+wants_token dot (plain [] ∷ f ∷ fs) w = elim w [ ]
+wants_token dot (dotted es ∷ fs) w = elim w [ ]
+wants_token dot (full es l ∷ fs) w = elim w [ ]
 
 wants : (ts : List Token) (s : State) (t : Tree) → tree_of (run s ts) ≡ tree t → Wants s ts t
 unfolding parsed_from

@@ -1,4 +1,6 @@
 // The text of a word (document 02, A4): measured first, so that nothing is written where it does not fit, then written.
+#![tactic(auto)]
+
 mod pieces;
 mod walk;
 

@@ -1,5 +1,7 @@
 // What the questions ask that have an answer on every store: of words and numbers, of the queue, and questions 1 and 2, which calls, collector and
 // audit ask before anything else. Of the queue they look at its place and count alone.
+#![tactic(auto)]
+
 ghost use Rattle.std.specs.Prelude.{◌≡◌, ◌≤◌, length};
 ghost use Rattle.machine.specs.Words.{is_cell, is_legal, may_be_stored};
 ghost use Rattle.machine.specs.declared.Queue.{Queue};

@@ -1,4 +1,6 @@
 // The packet queue: where its slots lie, the packet in a slot, and the sums of waiting changes of one cell.
+#![tactic(auto)]
+
 ghost use Rattle.std.specs.Prelude.{◌≡◌, List, ℕ, suc, ◌+◌, ◌%◌, ◌<◌, ◌≤◌};
 ghost use Rattle.machine.specs.Range.{matching};
 ghost use Rattle.machine.specs.Queue.{slots, queue_of, slot, waiting};

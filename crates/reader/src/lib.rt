@@ -1,4 +1,6 @@
 // Reads a rule text into a store, for any table, queue and text: its questions are asked, and only then its tree is built by cons.
+#![tactic(auto)]
+
 mod asked;
 mod build;
 

@@ -1,4 +1,6 @@
 // The seat roster's declared types. What its calls do is the definition in specs/.
+#![tactic(auto)]
+
 use machine::{Queue, Refusal};
 
 // The seats are 1 to this number.

@@ -1,5 +1,7 @@
 // The seat roster (document 02, A7): seats 1 to 600 with a reading each, kept in a store of its own and by the store's calls alone. Each call is lent the
 // table, the queue, the roster's word and a scratch, and replies with the queue and the word afterwards. A roster begins with an accepted fresh and nil.
+#![tactic(auto)]
+
 mod ask;
 mod past;
 

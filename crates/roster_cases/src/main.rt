@@ -1,4 +1,6 @@
 // The roster's calls over a list of stores and calls, with every reply and what is to be seen of the store after it: the expected output is the reference's.
+#![tactic(auto)]
+
 mod asking;
 mod figures;
 

@@ -1,4 +1,6 @@
 // The roster's list changed by settled calls, at a cell of it that is held. For the crate `roster`, and for no one else.
+#![tactic(auto)]
+
 ghost use Rattle.readings.specs.Answers.{roster_reply};
 ghost use Rattle.roster_changes.specs.Changes.{ReadsOut, Replaces, Adds, Links, DropsFirst, Relinks, LinksPast};
 

@@ -1,5 +1,7 @@
 // The seat roster as a list of cells, gone along by calls of the store alone: a cell of the list has the entry's cell and the next cell of the list, the
 // entry's cell the seat and the reading as atoms. For the crate `roster`, and for no one else.
+#![tactic(auto)]
+
 mod ask;
 mod atoms;
 mod settling;

@@ -1,4 +1,6 @@
 // Rule texts tried line by line on a store of their own: bytes in, bytes out. The definition of what comes out is specs/Answers.antt.
+#![tactic(auto)]
+
 mod hold;
 mod kept;
 mod line;

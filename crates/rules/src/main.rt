@@ -1,6 +1,8 @@
 // Rule texts from standard input, each answered on standard output as the store writes it back. Proved (specs/Threading): what goes from call to call is
 // as rule_lines' theorem on whole inputs wants it. Not proved, since libc's contracts say nothing of bytes: that what is fed is the input, and that the
 // output is written.
+#![tactic(auto)]
+
 ghost use Rattle.std.specs.Prelude.{◌≡◌, ◌≤◌, length};
 ghost use Rattle.machine.specs.Table.{table_length, scratch_words};
 ghost use Rattle.rule_lines.specs.Answers.{store_cells, room};

@@ -1,4 +1,6 @@
 // Judges a rule text before anything is built.
+#![tactic(auto)]
+
 mod lists;
 mod modes;
 pub mod tokens;

@@ -1,4 +1,6 @@
 // A count for each cell, in the scratch: word i counts the cell at index i.
+#![tactic(auto)]
+
 ghost use Rattle.std.specs.Prelude.{◌≤◌, length};
 ghost use Rattle.machine.specs.Table.{scratch_words};
 ghost use Rattle.scratch_counts.specs.Counts.{CountUp, CountDown, RoomForOne};

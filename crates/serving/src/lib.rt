@@ -1,4 +1,6 @@
 // What an output line says of an answer of the store.
+#![tactic(auto)]
+
 ghost use Rattle.std.specs.Prelude.{◌≡◌};
 ghost use Rattle.machine.specs.Answers.{row_reply, fresh_reply, step_reply};
 ghost use Rattle.line_text.specs.Verdicts.{verdict_of};

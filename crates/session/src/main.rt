@@ -1,5 +1,7 @@
 // A session from standard input to standard output. Proved (specs/Threading): what goes from call to call is as session_lines' theorem on whole
 // sessions wants it. Not proved, since libc's contracts say nothing of bytes: that what is fed is the input, and that the output is written.
+#![tactic(auto)]
+
 ghost use Rattle.std.specs.Prelude.{◌≡◌, ◌≤◌, length};
 ghost use Rattle.line_text.specs.Texts.{room};
 ghost use Rattle.session_lines.specs.Whole.{begin};

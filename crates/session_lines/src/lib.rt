@@ -1,4 +1,6 @@
 // The session's lines: bytes in, bytes out. The definition of what comes out is specs/Listing.antt.
+#![tactic(auto)]
+
 mod lines;
 
 ghost use Rattle.std.specs.Prelude.{◌≡◌};

@@ -1,1 +1,2 @@
 // Theorems alone: specs/ states demand 3, proofs/ proves it.
+#![tactic(auto)]

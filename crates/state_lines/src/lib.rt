@@ -1,5 +1,7 @@
 // Stores, calls and replies as lines of text, in the form of reference/FORMAT.md, for programs that run a crate's calls over a list. Which calls
 // there are is theirs to know. Of a list that isn't of that form nothing is said but that reading it is safe and ends.
+#![tactic(auto)]
+
 mod arrays;
 mod checksum;
 mod input;

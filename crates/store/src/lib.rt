@@ -1,5 +1,7 @@
 // The store's calls, each with the one promise, for any words, numbers and buffers. The promise is machine's specs/Promise; a row call and a fresh
 // are lent no scratch.
+#![tactic(auto)]
+
 ghost use Rattle.std.specs.Prelude.{[], length};
 ghost use Rattle.machine.specs.Calls.{fresh, row, step, audit, read, car, cdr, cons, set_left, set_right, up, down, store};
 ghost use Rattle.machine.specs.Answers.{call_of, fresh_reply, row_reply, step_reply, audit_answer_reply};

@@ -1,4 +1,6 @@
 // The twelve calls over a list of stores and calls, with every reply and what each call left: the expected output is the reference's.
+#![tactic(auto)]
+
 ghost use Rattle.std.specs.Prelude.{◌≡◌, ◌≤◌, length};
 ghost use Rattle.state_lines.specs.Sizes.{Fits};
 

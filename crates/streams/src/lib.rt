@@ -1,5 +1,7 @@
 // Standard input, output and error, for any program. Proved (specs/Reading): a read's failure, its end and its bytes are told apart, and the bytes have
 // room in the buffer. Of `put` and `tell` nothing can be said but that they end, since libc's contracts say nothing of bytes.
+#![tactic(auto)]
+
 ghost use Rattle.std.specs.Prelude.{◌≡◌, ◌<◌, length};
 ghost use Rattle.streams.specs.Reading.{meaning, Within, remaining};
 

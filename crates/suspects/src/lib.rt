@@ -1,4 +1,6 @@
 // The dead cells among those that hang on a cell which has lost its last root. It needs no scratch and writes nothing but its list.
+#![tactic(auto)]
+
 mod rest;
 mod support;
 

@@ -1,5 +1,7 @@
 // The traffic of the load bench: the workload that an input asks for (specs/Workload.antt), a generator of 32 bits, and the calls drawn from it
 // (specs/Traffic.antt).
+#![tactic(auto)]
+
 pub mod input;
 
 ghost use Rattle.std.specs.Prelude.{◌≡◌, ◌*◌, ◌/◌, ◌%◌, ◌^◌};

@@ -1,5 +1,7 @@
 // Rounds of up, step, down and step inside a program: bench/run.sh sets them against the same calls from C, bench/up_and_step.c. The input is the number
 // of rounds, the output how many of their calls were done. Proved: it is safe and ends, and no call is counted that was not made.
+#![tactic(auto)]
+
 ghost use Rattle.std.specs.Prelude.{◌*◌, ◌≤◌};
 
 use base_ten::Number;

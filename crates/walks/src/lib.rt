@@ -1,4 +1,6 @@
 // A walk from some cells through cells that are no roots, as a list of at most 64 cells. It needs no scratch and no pass over the table.
+#![tactic(auto)]
+
 ghost use Rattle.std.specs.Prelude.{◌≡◌, ◌≤◌, length, take};
 ghost use Rattle.machine.specs.Facts.{TableShape};
 ghost use Rattle.walks.specs.Walk.{most_walked, Places, Starts, Walks};

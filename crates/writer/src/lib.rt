@@ -1,4 +1,6 @@
 // Writing rule text (document 02, A4), as the machine does it on every store.
+#![tactic(auto)]
+
 ghost use Rattle.std.specs.Prelude.{◌≡◌, length};
 ghost use Rattle.machine.specs.Queue.{waiting};
 ghost use Rattle.machine.specs.Facts.{Shape};
