@@ -164,9 +164,9 @@ module _ (t : List ℕ) (p : Packet) (ps : List Packet) (f : Facts t (p ∷ ps))
 
   met : (n : ℕ) (h : Change) (hs : List Change) → drop n (changes p) ≡ h ∷ hs → (i : ℕ) → i < capacity t → (k : Counter) → h.counter ≡ k
       → Lowers h.direction (word_at (stage t p n) i (counter_word k)) (matching h.word (suc i) h.amount)
-  met n h hs d i l root e = rw (at_stage n root i l) (runs_lowers _ root (suc i) (changes p) (word_at t i root_count) (root_runs i l) n h hs d (rw e))
-  met n h hs d i l cell e = rw (at_stage n cell i l) (runs_lowers _ cell (suc i) (changes p) (word_at t i cell_count) (cell_runs i l) n h hs d (rw e))
-  met n h hs d i l name e = rw (at_stage n name i l) (runs_lowers _ name (suc i) (changes p) (word_at t i name_count) (name_runs i l) n h hs d (rw e))
+  met n h hs d i l root e = rw (at_stage n root i l) (runs_lowers (λ m. m ≤ ceiling) root (suc i) (changes p) (word_at t i root_count) (root_runs i l) n h hs d (rw e))
+  met n h hs d i l cell e = rw (at_stage n cell i l) (runs_lowers (InPassing (kind_of p.kind) p.a p.b (suc i)) cell (suc i) (changes p) (word_at t i cell_count) (cell_runs i l) n h hs d (rw e))
+  met n h hs d i l name e = rw (at_stage n name i l) (runs_lowers (λ m. m ≤ 3 * slots) name (suc i) (changes p) (word_at t i name_count) (name_runs i l) n h hs d (rw e))
 
   within : (n : ℕ) (k : Counter) (i : ℕ) → i < capacity t → word_at (stage t p n) i (counter_word k) ≤ suc ceiling
   within n root i l = omega (arith, root_stage n i l)
