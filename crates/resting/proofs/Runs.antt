@@ -42,6 +42,7 @@ unfolding led_one
 begun_fresh {c = c} {v} p = (c, v, refl, refl)
 
 begun_both : (ls ms : List Link) → Begun ls → Begun (ls ++ ms)
+begun_both [] ms b = elim b [ ]
 begun_both (l ∷ ls) ms b = b
 
 pub begun_then : {t : List ℕ} {q : Queue} {t₁ : List ℕ} {q₁ : Queue} {t₂ : List ℕ} {q₂ : Queue} (x : Led t q t₁ q₁) (y : Led t₁ q₁ t₂ q₂) → Begun x.links
