@@ -34,6 +34,7 @@ value_told (text bytes) w e = absurd (clash e)
     clash d = let z : ◌≡◌ {A = ℕ} 0 1 = cc in omega arith
 
 begun : (t w : List ℕ) (ls : List Called) (j : Joined t w ls) → Begun ls → demand.Begun (links t w ls j)
+begun t w [] j x = elim x [ ]
 begun t w (l ∷ ls) j (c, v, e, d) = (c, v, e, value_told j.0.reply v (faithful.replies j.0.reply (value v) (sym j.0.numbers ∙ d)))
 
 same_table : (t w : List ℕ) (ls : List Called) (j : Joined t w ls) → demand.table_after t (links t w ls j) ≡ table_after t ls

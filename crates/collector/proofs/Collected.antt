@@ -1,7 +1,7 @@
 -- Which cells are freed: those that mark and sweep find, or those that hang on the watched cell.
 use mathlib.Core.Path.{◌≡◌, sym, ap, ◌∙◌}
 use mathlib.Core.Bool.{Bool, not, ◌&&◌, and_comm}
-use mathlib.Core.List.{List, ◌∷◌}
+use mathlib.Core.List.{List, [], ◌∷◌}
 use Prim.Native.Nat.{ℕ, zero, suc, ◌≤◌, ◌<◌}
 use native.Mathlib.Omega.{arith}
 use lib.ListN.{length, get_or, take}
@@ -51,6 +51,7 @@ collects t s s₁ t' s' c n e m w f = record {
         (λ i l. unfold is_dead in (ap (λ (b : Bool). not b && in_use t i) (m.marks i l) ∙ and_comm (not (reached t i)) (in_use t i)))
 
 index_at : (c : ℕ) (is : List ℕ) → Indices c is → (i : ℕ) → i < length is → get_or is i 0 < c
+index_at c [] h i l = elim l [ ]
 index_at c (j ∷ is) h zero l = h.0
 index_at c (j ∷ is) h (suc i) l = index_at c is h.1 i (omega arith)
 

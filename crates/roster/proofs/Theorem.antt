@@ -72,7 +72,7 @@ plain t₀ q₀ c es t q w (l ∷ ls) e r m b j =
       k.0,
       k.1,
       roster_stored t₀ q₀ c _ l.after.table l.after.queue l.word same k.2 more still,
-      plain t₀ q₀ c _ l.after.table l.after.queue l.word ls same k.2 more still j.1,
+      plain t₀ q₀ c (refused_or (first_no (early_roster (store t q l.scratch) l.call)) es (answered c es l.call)).entries l.after.table l.after.queue l.word ls same k.2 more still j.1,
     )
 
 pub rosters : Rosters
