@@ -6,7 +6,7 @@ pub mod numbers;
 pub mod put;
 
 // What a word says as a number.
-#[derive(Drop)]
+#[derive(Clone, Copy)]
 pub enum Number {
     Value(u32),
     Nothing,

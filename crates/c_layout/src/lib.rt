@@ -12,7 +12,7 @@ use machine::{AuditAnswer, FreshAnswer, LengthAnswer, Refusal, RowAnswer, StepAn
 
 // In C `struct row_reply`.
 #[repr(C)]
-#[derive(Drop)]
+#[derive(Clone, Copy)]
 pub struct Reply {
     pub tag: u16,
     pub number: u16,

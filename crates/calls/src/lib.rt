@@ -30,14 +30,14 @@ use queue::Packet;
 use writes::write;
 
 // A row call's answer beside the queue.
-#[derive(Drop)]
+#[derive(Clone, Copy)]
 pub struct RowReply {
     pub answer: RowAnswer,
     pub queue: Queue,
 }
 
 // A fresh's answer beside the queue.
-#[derive(Drop)]
+#[derive(Clone, Copy)]
 pub struct FreshReply {
     pub answer: FreshAnswer,
     pub queue: Queue,

@@ -20,7 +20,7 @@ use suspects::dead_of;
 use walks::MOST;
 
 // A step's answer, and the queue afterwards.
-#[derive(Drop)]
+#[derive(Clone, Copy)]
 pub struct Stepped {
     pub answer: StepAnswer,
     pub queue: Queue,

@@ -33,7 +33,7 @@ fn name_down(table: &mut [u16], w: u16)
 }
 
 // The words that a packet names, nil in the place of those that it does not: kinds 4 and 5 name a only.
-#[derive(Drop)]
+#[derive(Clone, Copy)]
 pub struct Names {
     pub x: u16,
     pub y: u16,

@@ -8,7 +8,7 @@ pub mod texts;
 use machine::RowCall;
 
 // A line's call with its operands, or any other line.
-#[derive(Drop)]
+#[derive(Clone, Copy)]
 pub enum Request {
     Fresh(u16),
     Row(RowCall),
@@ -17,7 +17,7 @@ pub enum Request {
 }
 
 // What an output line says after its number.
-#[derive(Drop)]
+#[derive(Clone, Copy)]
 pub enum Verdict {
     Ok(u16),
     No(u16),

@@ -16,7 +16,7 @@ use traffic::Workload;
 pub const BOTH_ROOM: usize = LINE_ROOM + ROOM;
 
 // What is carried from one part of the output to the next: the workload, the generator's state, the calls made (fresh counts), and the queue.
-#[derive(Drop)]
+#[derive(Clone, Copy)]
 pub struct Load {
     pub bad: bool,
     pub cells: u16,
@@ -27,7 +27,7 @@ pub struct Load {
 }
 
 // After a part of the output: the load, how much was written, and whether there is more.
-#[derive(Drop)]
+#[derive(Clone, Copy)]
 pub struct Written {
     pub load: Load,
     pub written: usize,

@@ -16,7 +16,7 @@ pub const FIRST_ATOM: u16 = 32768;
 pub const CLIP: u16 = 4095;
 
 // The packet queue: 64 slots of a kind and three words, the first slot's place and the number of waiting packets.
-#[derive(Drop)]
+#[derive(Clone, Copy)]
 pub struct Queue {
     pub kinds: [u16; 64],
     pub a: [u16; 64],
@@ -44,7 +44,7 @@ impl Queue {
 }
 
 // How many pointers to a cell row programs hold.
-#[derive(Drop)]
+#[derive(Clone, Copy)]
 pub struct RootCount(pub u16);
 
 impl RootCount {
@@ -72,7 +72,7 @@ impl RootCount {
 }
 
 // How many pointers to a cell stand in other cells.
-#[derive(Drop)]
+#[derive(Clone, Copy)]
 pub struct CellCount(pub u16);
 
 impl CellCount {
@@ -100,7 +100,7 @@ impl CellCount {
 }
 
 // How many times waiting packets name a cell.
-#[derive(Drop)]
+#[derive(Clone, Copy)]
 pub struct NameCount(pub u16);
 
 impl NameCount {
@@ -126,7 +126,7 @@ impl NameCount {
 }
 
 // The questions, by what a "no" says; specs/Answers.antt gives the paper's number of each.
-#[derive(Drop)]
+#[derive(Clone, Copy)]
 pub enum Refusal {
     StoreOutOfRange,
     ScratchTooShort,
@@ -170,14 +170,14 @@ impl Refusal {
 }
 
 // What a call's questions say: "yes" to all, or the first "no".
-#[derive(Drop)]
+#[derive(Clone, Copy)]
 pub enum Asked {
     Yes,
     No(Refusal),
 }
 
 // A row program's call with its operands, as a value.
-#[derive(Drop)]
+#[derive(Clone, Copy)]
 pub enum RowCall {
     Car(u16),
     Cdr(u16),
@@ -189,19 +189,19 @@ pub enum RowCall {
 }
 
 // A row call's answer: the new cell, the word read, the word detached, else 0; or a refusal.
-#[derive(Drop)]
+#[derive(Clone, Copy)]
 pub enum RowAnswer {
     Done(u16),
     Refused(Refusal),
 }
 
-#[derive(Drop)]
+#[derive(Clone, Copy)]
 pub enum FreshAnswer {
     Done,
     Refused(Refusal),
 }
 
-#[derive(Drop)]
+#[derive(Clone, Copy)]
 pub enum StepAnswer {
     Idle,
     Applied { kind: u16, freed: u16 },
@@ -209,7 +209,7 @@ pub enum StepAnswer {
 }
 
 // The audit's rules S1 to S5, by what each is about.
-#[derive(Drop)]
+#[derive(Clone, Copy)]
 pub enum Rule {
     Cells,
     FreeChain,
@@ -232,7 +232,7 @@ impl Rule {
     }
 }
 
-#[derive(Drop)]
+#[derive(Clone, Copy)]
 pub enum AuditAnswer {
     Sound,
     Broken(Rule),
@@ -240,7 +240,7 @@ pub enum AuditAnswer {
 }
 
 // How many bytes the text of a word has, where it can be written, or the refusal.
-#[derive(Drop)]
+#[derive(Clone, Copy)]
 pub enum LengthAnswer {
     Length(usize),
     Refused(Refusal),

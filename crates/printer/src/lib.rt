@@ -13,7 +13,7 @@ use crate::pieces::{put_piece, width};
 use crate::walk::{MOST_OPEN, Step, next, start};
 
 // How many bytes a text has, or what is met first where it does not fit: a bracket too many, or a byte without room.
-#[derive(Drop)]
+#[derive(Clone, Copy)]
 pub enum Measured {
     Bytes(usize),
     TooDeep,

@@ -11,7 +11,7 @@ use machine::FIRST_ATOM;
 pub(crate) const MOST_OPEN: usize = 32;
 
 // What a word opens out into: a pair of two words, an atom by its value, or nil.
-#[derive(Drop)]
+#[derive(Clone, Copy)]
 pub(crate) enum Kind {
     Pair(u16, u16),
     Atom(u16),
@@ -19,7 +19,7 @@ pub(crate) enum Kind {
 }
 
 // What is written from one stop of the walk to the next. A dotted end is the dot, the value and the closing bracket.
-#[derive(Drop)]
+#[derive(Clone, Copy)]
 pub(crate) enum Piece {
     Opening,
     Empty,
@@ -30,14 +30,14 @@ pub(crate) enum Piece {
 }
 
 // A stop: before the element that a word is, or behind an element, with so many lists open.
-#[derive(Drop)]
+#[derive(Clone, Copy)]
 pub(crate) struct Walk {
     pub word: u16,
     pub depth: usize,
     pub behind: bool,
 }
 
-#[derive(Drop)]
+#[derive(Clone, Copy)]
 pub(crate) enum Step {
     Ended,
     TooDeep,

@@ -7,10 +7,7 @@ use native.Mathlib.Omega.{arith}
 use lib.Dec.{leb, ltb}
 use borrow.Author.Tests.{ne_eqb, le-leb, lt-leb}
 use Rattle.machine.specs.Words.{first_atom, largest_word, clip, is_nil, is_cell, is_atom, is_legal, may_be_stored}
-use denote.Enum.Declared.{tag_of}
-use types.Run.{OneOf, miss}
 use Rattle.machine.specs.declared.RowCall as declared
-use Rattle.machine.specs.contracts.RowCall.{the_type}
 use Rattle.machine.specs.Calls.{reads_nil}
 use Rattle.machine.specs.Answers.{call_of}
 use Rattle.machine.proofs.Lists.{and-true}
@@ -32,12 +29,13 @@ unfolding may_be_stored is_atom
 atom_stored w l m = rw (le-leb first_atom w l, le-leb w largest_word m)
 
 -- no call but the enum's first two reads
-pub no_read : (call : declared.RowCall) → OneOf (2 ∷ 3 ∷ 4 ∷ 5 ∷ 6 ∷ []) (tag_of the_type call) → false ≡ reads_nil (call_of call)
+pub no_read : (call : declared.RowCall) → ((x : ℕ) → call ≡ declared.RowCall.Car x → ⊥) → ((x : ℕ) → call ≡ declared.RowCall.Cdr x → ⊥)
+    → false ≡ reads_nil (call_of call)
 unfolding reads_nil
-no_read (declared.RowCall.Car x) h = absurd (miss (2 ∷ 3 ∷ 4 ∷ 5 ∷ 6 ∷ []) 0 tt h)
-no_read (declared.RowCall.Cdr x) h = absurd (miss (2 ∷ 3 ∷ 4 ∷ 5 ∷ 6 ∷ []) 1 tt h)
-no_read (declared.RowCall.Cons x y) h = refl
-no_read (declared.RowCall.SetLeft x y) h = refl
-no_read (declared.RowCall.SetRight x y) h = refl
-no_read (declared.RowCall.Up x n) h = refl
-no_read (declared.RowCall.Down x n) h = refl
+no_read (declared.RowCall.Car x) h k = absurd (h x refl)
+no_read (declared.RowCall.Cdr x) h k = absurd (k x refl)
+no_read (declared.RowCall.Cons x y) h k = refl
+no_read (declared.RowCall.SetLeft x y) h k = refl
+no_read (declared.RowCall.SetRight x y) h k = refl
+no_read (declared.RowCall.Up x n) h k = refl
+no_read (declared.RowCall.Down x n) h k = refl

@@ -10,7 +10,7 @@ ghost use Rattle.queue.specs.Sums.{packet_of, AtMost, WithCount, at_least, at_mo
 use machine::{CellCount, Queue, RootCount};
 
 // What a slot holds.
-#[derive(Drop)]
+#[derive(Clone, Copy)]
 pub struct Packet {
     pub kind: u16,
     pub a: u16,
@@ -42,7 +42,7 @@ pub fn slot_after(place: u16, i: u16) -> usize
 }
 
 // By how much a root count is to be raised and lowered; with the root count added, the held count is the difference.
-#[derive(Drop)]
+#[derive(Clone, Copy)]
 pub struct HeldSums {
     pub raised: u32,
     pub lowered: u32,
@@ -78,7 +78,7 @@ impl HeldSums {
 }
 
 // By how much a cell count is to be raised and lowered; with the cell count added, the pointers are the difference.
-#[derive(Drop)]
+#[derive(Clone, Copy)]
 pub struct PointerSums {
     pub raised: u32,
     pub lowered: u32,
@@ -106,7 +106,7 @@ impl PointerSums {
 }
 
 // Waiting changes of one cell.
-#[derive(Drop)]
+#[derive(Clone, Copy)]
 pub struct Sums {
     pub held: HeldSums,
     pub pointers: PointerSums,

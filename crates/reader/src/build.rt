@@ -18,14 +18,14 @@ const MOST_WORDS: usize = 65;
 const MOST_OPEN: usize = 32;
 
 // The word that was built, and the queue.
-#[derive(Drop)]
+#[derive(Clone, Copy)]
 pub struct Built {
     pub word: u16,
     pub queue: Queue,
 }
 
 // How many words stand, how many lists are open, and the queue.
-#[derive(Drop)]
+#[derive(Clone, Copy)]
 struct Place {
     count: usize,
     opened: usize,

@@ -7,7 +7,7 @@ use machine::{Queue, Refusal};
 pub const SEATS: u16 = 600;
 
 // A roster call's answer: the reading, the number of seats, else 0; no such seat; or a refusal.
-#[derive(Drop)]
+#[derive(Clone, Copy)]
 pub enum RosterAnswer {
     Done(u16),
     Absent,
@@ -15,7 +15,7 @@ pub enum RosterAnswer {
 }
 
 // The answer, and the roster's queue and word afterwards.
-#[derive(Drop)]
+#[derive(Clone, Copy)]
 pub struct Replied {
     pub answer: RosterAnswer,
     pub queue: Queue,

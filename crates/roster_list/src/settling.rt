@@ -6,7 +6,7 @@ ghost use Rattle.resting.specs.Settling.{word_of, Settling};
 use machine::{Queue, RowAnswer, RowCall};
 
 // The queue afterwards, and the word replied; nil where the call is refused.
-#[derive(Drop)]
+#[derive(Clone, Copy)]
 pub struct Settled {
     pub queue: Queue,
     pub word: u16,

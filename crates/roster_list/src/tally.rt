@@ -9,13 +9,13 @@ use crate::walk::entry_word;
 use machine::{Queue, RowCall};
 use readings::SEATS;
 
-#[derive(Drop)]
+#[derive(Clone, Copy)]
 pub struct Tallied {
     pub queue: Queue,
     pub count: u16,
 }
 
-#[derive(Drop)]
+#[derive(Clone, Copy)]
 struct Weighed {
     queue: Queue,
     at: u16,

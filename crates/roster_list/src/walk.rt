@@ -9,7 +9,7 @@ use machine::{Queue, RowCall};
 use readings::SEATS;
 
 // A cell of the list that is held, or nil, and how many cells of the list come before it.
-#[derive(Drop)]
+#[derive(Clone, Copy)]
 pub struct Place {
     pub queue: Queue,
     pub at: u16,
@@ -43,7 +43,7 @@ pub fn entry_word(
     settle(table, next, scratch, field_of(pair, right))
 }
 
-#[derive(Drop)]
+#[derive(Clone, Copy)]
 struct Turned {
     queue: Queue,
     at: u16,

@@ -18,7 +18,7 @@ use machine::Queue;
 pub const LINE_BYTES: usize = kept::KEPT_BYTES;
 
 // What is carried from one part of the input to the next: how many bytes of the present line are held, and the queue.
-#[derive(Drop)]
+#[derive(Clone, Copy)]
 pub struct Rules {
     pub held: usize,
     pub queue: Queue,
@@ -36,7 +36,7 @@ impl Rules {
 }
 
 // After a part of the input: what is carried on, how much was taken, and how much was written.
-#[derive(Drop)]
+#[derive(Clone, Copy)]
 pub struct Fed {
     pub rules: Rules,
     pub taken: usize,
@@ -100,7 +100,7 @@ pub fn feed(
 }
 
 // After the end of the input: how much was written, and whether there is more.
-#[derive(Drop)]
+#[derive(Clone, Copy)]
 pub struct Written {
     pub written: usize,
     pub more: bool,

@@ -16,7 +16,7 @@ const ANSWER_BYTES: usize = 645;
 pub const ROOM: usize = ANSWER_BYTES + 1;
 
 // The queue afterwards, and where the answer ends.
-#[derive(Drop)]
+#[derive(Clone, Copy)]
 pub struct Answered {
     pub queue: Queue,
     pub end: usize,

@@ -13,7 +13,7 @@ use lists::{Scan, Taken, judge, take_token};
 // The most bytes of a text.
 const MOST_TEXT: usize = 4096;
 
-#[derive(Drop)]
+#[derive(Clone, Copy)]
 pub enum Scanned {
     // Outside the notation, or too long.
     Outside,

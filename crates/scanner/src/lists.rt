@@ -24,7 +24,7 @@ const DOTTED: u64 = 2;
 
 const FULL: u64 = 3;
 
-#[derive(Drop)]
+#[derive(Clone, Copy)]
 pub struct Scan {
     // The tokens before this place are taken.
     pub at: usize,
@@ -41,7 +41,7 @@ pub struct Scan {
 }
 
 // What a token leads to: a text that may go on, or one outside the notation.
-#[derive(Drop)]
+#[derive(Clone, Copy)]
 pub enum Taken {
     Within(Scan),
     Outside,

@@ -8,7 +8,7 @@ use base_ten::numbers::number;
 // No atom has a larger value.
 const LARGEST_VALUE: u32 = 32767;
 
-#[derive(Drop)]
+#[derive(Clone, Copy)]
 pub enum Token {
     // A space.
     Blank,
@@ -22,7 +22,7 @@ pub enum Token {
 }
 
 // A token and the place past it.
-#[derive(Drop)]
+#[derive(Clone, Copy)]
 pub struct TokenRead {
     pub token: Token,
     pub next: usize,

@@ -12,7 +12,7 @@ use lines::serve_lines;
 use machine::Queue;
 
 // What is carried from one part of the input to the next: the first bytes of the present line, the number of lines before it, and the queue.
-#[derive(Drop)]
+#[derive(Clone, Copy)]
 pub struct Session {
     pub line: [u8; KEPT_BYTES],
     pub held: usize,
@@ -34,7 +34,7 @@ impl Session {
 }
 
 // After a part of the input: the session, how much was taken, and how much was written.
-#[derive(Drop)]
+#[derive(Clone, Copy)]
 pub struct Fed {
     pub session: Session,
     pub taken: usize,
@@ -56,7 +56,7 @@ pub fn feed(
 }
 
 // After the end of the input: how much was written, and whether there is more.
-#[derive(Drop)]
+#[derive(Clone, Copy)]
 pub struct Written {
     pub written: usize,
     pub more: bool,

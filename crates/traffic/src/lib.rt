@@ -16,14 +16,14 @@ const MULTIPLIER: u32 = 1664525;
 const INCREMENT: u32 = 1013904223;
 
 // What an input asks for: a seed, C and a number of calls.
-#[derive(Drop)]
+#[derive(Clone, Copy)]
 pub enum Workload {
     Run(u32, u16, u16),
     Bad,
 }
 
 // A call, and the state after its draws.
-#[derive(Drop)]
+#[derive(Clone, Copy)]
 pub struct Drawn {
     pub request: Request,
     pub state: u32,

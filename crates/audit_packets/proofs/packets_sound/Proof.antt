@@ -19,7 +19,7 @@ packets-legal-requires c κs = search rules
 returns-2 : tie.Need-returns-2
 returns-2 c =
     let i = c.before.before.before.before.before.before.args in
-    record { answer = sym (legal_fails i.table.now i.queue (failed c.before.packets_legal_lem.ensures c.if2.true)); past = refl }
+    record { answer = sym (legal_fails i.table.now i.queue (failed c.before.packets_legal.ensures c.if2.true)); past = refl }
 
 packets-replay-requires : tie.Need-packets-replay-requires
 packets-replay-requires c κs = search rules
@@ -43,7 +43,7 @@ returns-4 c =
     let at_slots = at-legal.before.before in
     let i = at_slots.before.before.before.before.args in
     let slots = passed at_slots.before.other-slots-zero.ensures at_slots.if1.false in
-    let legal = passed at-legal.before.packets_legal_lem.ensures at-legal.if2.false in
+    let legal = passed at-legal.before.packets_legal.ensures at-legal.if2.false in
     let replay = passed at-replay.before.packets-replay.ensures at-replay.if3.false in
     let names = at_Names.names-counted.ensures in
     record { answer = names.answer ∙ names_decide i.table.now i.queue slots legal replay; past = names.past }

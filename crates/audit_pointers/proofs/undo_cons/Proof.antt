@@ -23,7 +23,7 @@ returns c =
     let start = at_left.before.before.before in
     let i = start.args in
     let h = start.requires in
-    cons_no_left i.table.now i.queue i.j i.scratch.now h.0 i.cell h.1 i.a i.b _ 0 at_left.stage_field_lem.ensures
+    cons_no_left i.table.now i.queue i.j i.scratch.now h.0 i.cell h.1 i.a i.b _ 0 at_left.stage_field.ensures
     c.if1.true
 
 add-stage-field-2 : tie.Need-overflow-add-stage-field-2
@@ -39,7 +39,7 @@ returns-2 c =
     let start = at_left.before.before.before in
     let i = start.args in
     let h = start.requires in
-    cons_no_right i.table.now i.queue i.j i.scratch.now h.0 i.cell h.1 i.a i.b _ _ at_left.stage_field_lem.ensures
+    cons_no_right i.table.now i.queue i.j i.scratch.now h.0 i.cell h.1 i.a i.b _ _ at_left.stage_field.ensures
     at_right.stage-field2.ensures c.if2.true
 
 capacity-of-requires : tie.Need-capacity-of-requires
@@ -72,7 +72,7 @@ returns-3 c =
     let start = at_left.before.before.before in
     let i = start.args in
     let h = start.requires in
-    cons_yes i.table.now i.queue i.j i.scratch.now h.0 i.cell h.1 i.a i.b _ _ at_left.stage_field_lem.ensures
+    cons_yes i.table.now i.queue i.j i.scratch.now h.0 i.cell h.1 i.a i.b _ _ at_left.stage_field.ensures
     at_right.stage-field2.ensures _ _ _ at-capacity.capacity-of.ensures at-if1.if1.false at-if2.if2.false at-lower.lower.ensures
     at-lower-2.lower2.ensures
 

@@ -24,7 +24,7 @@ returns c =
     let i = start.args in
     let h = start.requires in
     replace_no i.table.now i.queue i.j i.scratch.now h.0 i.cell h.1 i.k i.a i.b _ h.2
-    at-stage-field.stage_field_lem.ensures c.if1.true
+    at-stage-field.stage_field.ensures c.if1.true
 
 capacity-of-requires : tie.Need-capacity-of-requires
 capacity-of-requires c κs = search rules
@@ -65,8 +65,8 @@ returns-2 c =
     let i = start.args in
     let h = start.requires in
     replace_yes i.table.now i.queue i.j i.scratch.now h.0 i.cell h.1 i.k i.a i.b _ h.2
-    at-stage-field.stage_field_lem.ensures _ _ _ _ at-capacity.capacity-of.ensures at-if1.if1.false at-raise.raise.ensures
-    at-lower.lower.ensures c.word_within_lem.ensures
+    at-stage-field.stage_field.ensures _ _ _ _ at-capacity.capacity-of.ensures at-if1.if1.false at-raise.raise.ensures
+    at-lower.lower.ensures c.word_within.ensures
 
 pub undo-replace-spec : {M : Type 1} → statement M
 undo-replace-spec =

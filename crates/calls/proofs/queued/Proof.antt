@@ -62,7 +62,7 @@ returns c =
     let asked = at-late.late_asked in
     let late = asked.ensures i.queue.c in
     let answer = c.answer-of in
-    let value = c.before.value_of_lem in
+    let value = c.before.value_of in
     let next = at-match.match.next in
     ⊎_elim
     (λ w. queued_done t i.queue p asked.result late value.result answer.result next w.1.given.1 answer.ensures value.ensures

@@ -19,7 +19,7 @@ same-length-2 : tie.Need-same-length-2
 same-length-2 c = search rules
 
 returns : tie.Need-returns
-returns c = reads_out c.before.before.before.before.before.before.before.before.before.before.before.before.before.before.entry-word.ensures c.before.before.before.before.before.before.before.before.value_of_lem.ensures c.before.before.before.before.before.settle.ensures
+returns c = reads_out c.before.before.before.before.before.before.before.before.before.before.before.before.before.before.entry-word.ensures c.before.before.before.before.before.before.before.before.value_of.ensures c.before.before.before.before.before.settle.ensures
 
 pub read-out-spec : {M : Type 1} → statement M
 read-out-spec =

@@ -15,10 +15,10 @@ in-range-requires c κs = search rules
 returns : tie.Need-returns
 returns c =
     let i = c.before.before.before.args in
-    front_1 i.table.now i.queue i.word (no (c.before.in_range_lem.ensures i.queue) c.if1.true)
+    front_1 i.table.now i.queue i.word (no (c.before.in_range.ensures i.queue) c.if1.true)
 
 ranged : (c : tie.Else1) → in_range c.before.before.before.args.table.now c.before.before.before.args.queue ≡ true
-ranged c = yes (c.before.in_range_lem.ensures c.before.before.before.args.queue) c.if1.false
+ranged c = yes (c.before.in_range.ensures c.before.before.before.args.queue) c.if1.false
 
 capacity-of-requires : tie.Need-capacity-of-requires
 capacity-of-requires c κs =

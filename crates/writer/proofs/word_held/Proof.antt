@@ -19,7 +19,7 @@ is-cell-requires c κs = search rules
 
 -- what the test says of the table's own C
 a-cell : (c : tie.Then1) → is_cell (capacity c.before.before.before.before.args.table.now) c.before.before.before.before.args.word ≡ true
-a-cell c = cellular _ _ _ c.before.before.capacity-of.ensures c.before.is_cell_lem.ensures c.if1.true
+a-cell c = cellular _ _ _ c.before.before.capacity-of.ensures c.before.is_cell.ensures c.if1.true
 
 sub-index : tie.Need-overflow-sub-index
 sub-index c = omega (arith, cell_number_lem _ _ (a-cell c))
@@ -46,14 +46,14 @@ returns c =
     let i = at.before.before.before.before.args in
     let s = (sums.waiting-changes.ensures.0 i.t2.c).held in
     let with = c.before.with.ensures in
-    held_cell i.table.now (waiting i.t2) i.word _ _ _ _ _ (a-cell at) c.before.before.root_count_lem.ensures s.raised s.lowered
+    held_cell i.table.now (waiting i.t2) i.word _ _ _ _ _ (a-cell at) c.before.before.root_count.ensures s.raised s.lowered
     with.raised with.lowered c.at_least.ensures
 
 returns-2 : tie.Need-returns-2
 returns-2 c =
     let i = c.before.before.before.before.args in
     held_other i.table.now (waiting i.t2) i.word
-    (cellular i.table.now _ i.word c.before.before.capacity-of.ensures c.before.is_cell_lem.ensures c.if1.false)
+    (cellular i.table.now _ i.word c.before.before.capacity-of.ensures c.before.is_cell.ensures c.if1.false)
 
 pub word-held-spec : {M : Type 1} → statement M
 word-held-spec =

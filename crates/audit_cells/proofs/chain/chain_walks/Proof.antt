@@ -21,7 +21,7 @@ first-free-requires : tie.Need-first-free-requires invariant-loop decreases-loop
 first-free-requires c κs = search rules
 
 loop-holds : tie.Need-loop-init invariant-loop decreases-loop
-loop-holds c = (omega arith, [], rw c.first_free_lem.ensures (walked_none _))
+loop-holds c = (omega arith, [], rw c.first_free.ensures (walked_none _))
 
 is-free-cell-requires : tie.Need-is-free-cell-requires invariant-loop decreases-loop
 is-free-cell-requires c κs = search rules

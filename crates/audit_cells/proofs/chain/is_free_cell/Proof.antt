@@ -18,7 +18,7 @@ is-cell-requires c κs = search rules
 sub-in-use : tie.Need-overflow-sub-in-use
 sub-in-use c =
     let i = c.before.before.before.before.args in
-    let h = sym (cell_asked i.table.now i.w c.before.is_cell_lem.ensures c.before.before.capacity-of.ensures) ∙ c.if1.true in
+    let h = sym (cell_asked i.table.now i.w c.before.is_cell.ensures c.before.before.capacity-of.ensures) ∙ c.if1.true in
     let n = cell_number_lem (capacity i.table.now) i.w h in omega arith
 
 cast-in-use : tie.Need-overflow-cast-in-use
@@ -27,7 +27,7 @@ cast-in-use c = search rules
 in-use-requires : tie.Need-in-use-requires
 in-use-requires c κs =
     let i = c.before.before.before.before.args in
-    let h = sym (cell_asked i.table.now i.w c.before.is_cell_lem.ensures c.before.before.capacity-of.ensures) ∙ c.if1.true in
+    let h = sym (cell_asked i.table.now i.w c.before.is_cell.ensures c.before.before.capacity-of.ensures) ∙ c.if1.true in
     let l = cell_index (capacity i.table.now) i.w h in omega arith
 
 returns : tie.Need-returns
@@ -36,7 +36,7 @@ returns c =
     let i = at-is-cell.before.before.before.args in
     ap not c.in_use.ensures
     ∙ cell_free_lem i.table.now i.w
-    (sym (cell_asked i.table.now i.w at-is-cell.is_cell_lem.ensures at-is-cell.before.capacity-of.ensures) ∙ c.before.if1.true)
+    (sym (cell_asked i.table.now i.w at-is-cell.is_cell.ensures at-is-cell.before.capacity-of.ensures) ∙ c.before.if1.true)
 
 returns-2 : tie.Need-returns-2
 returns-2 c =
@@ -44,7 +44,7 @@ returns-2 c =
     let i = at-is-cell.before.before.before.args in
     sym
     (no_cell_not_free i.table.now i.w
-    (sym (cell_asked i.table.now i.w at-is-cell.is_cell_lem.ensures at-is-cell.before.capacity-of.ensures) ∙ c.if1.false))
+    (sym (cell_asked i.table.now i.w at-is-cell.is_cell.ensures at-is-cell.before.capacity-of.ensures) ∙ c.if1.false))
 
 pub is-free-cell-spec : {M : Type 1} → statement M
 is-free-cell-spec =

@@ -20,7 +20,7 @@ root-count-requires : tie.Need-root-count-requires
 root-count-requires c κs = search rules
 
 returns-2 : tie.Need-returns-2
-returns-2 c = sym (refuted _ (λ h. c.if2.true (c.before.before.root_count_lem.ensures ∙ laid_wiped _ _ h root_count (omega arith) (omega arith))))
+returns-2 c = sym (refuted _ (λ h. c.if2.true (c.before.before.root_count.ensures ∙ laid_wiped _ _ h root_count (omega arith) (omega arith))))
 
 cell-count-requires : tie.Need-cell-count-requires
 cell-count-requires c κs = search rules
@@ -46,7 +46,7 @@ returns-5 c =
     let at_field = at-root-count.before.before in
     ap (λ (n : ℕ). eqb n 0) at-name-count.name-count.ensures
     ∙ laid_last _ _ (sym at_field.field.ensures ∙ at-root-count.before.if1.false)
-    (sym at-root-count.root_count_lem.ensures ∙ at-cell-count.before.if2.false) (sym at-cell-count.cell-count.ensures ∙ at-state-word.before.if3.false)
+    (sym at-root-count.root_count.ensures ∙ at-cell-count.before.if2.false) (sym at-cell-count.cell-count.ensures ∙ at-state-word.before.if3.false)
     (sym at-state-word.state-word.ensures ∙ at-name-count.before.if4.false)
 
 pub laid-out-spec : {M : Type 1} → statement M

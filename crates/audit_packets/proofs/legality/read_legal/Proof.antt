@@ -12,7 +12,7 @@ is-cell-requires c κs = search rules
 
 returns : tie.Need-returns
 unfolding words_of_kind
-returns c = sym (first_fails _ _ (failed c.before.is_cell_lem.ensures c.if1.true))
+returns c = sym (first_fails _ _ (failed c.before.is_cell.ensures c.if1.true))
 
 is-legal-requires : tie.Need-is-legal-requires
 is-legal-requires c κs = search rules
@@ -27,7 +27,7 @@ returns-3 : tie.Need-returns-3
 unfolding words_of_kind
 returns-3 c =
     let at-if1 = c.before.before in
-    third_decides _ (passed at-if1.before.is_cell_lem.ensures at-if1.if1.false) (passed c.before.is-legal.ensures c.if2.false)
+    third_decides _ (passed at-if1.before.is_cell.ensures at-if1.if1.false) (passed c.before.is-legal.ensures c.if2.false)
 
 pub read-legal-spec : {M : Type 1} → statement M
 read-legal-spec =

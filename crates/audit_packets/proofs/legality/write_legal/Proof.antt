@@ -31,7 +31,7 @@ returns-3 c =
     let at-if2 = c.before in
     let at-if1 = at-if2.before.before in
     let first = passed at-if1.before.is-legal.ensures at-if1.if1.false in
-    c.is_cell_lem.ensures ∙ third_decides _ first (passed at-if2.before.is-legal2.ensures at-if2.if2.false)
+    c.is_cell.ensures ∙ third_decides _ first (passed at-if2.before.is-legal2.ensures at-if2.if2.false)
 
 pub write-legal-spec : {M : Type 1} → statement M
 write-legal-spec =

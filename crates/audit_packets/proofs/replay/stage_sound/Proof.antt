@@ -27,7 +27,7 @@ returns c =
     let at-held-after = at-packet-on.before in
     let i = at-held-after.before.args in
     let p = packet_on i.queue i.j in
-    let u = at-times-named.times_named_lem.ensures.0 ∙ ap (λ (r : Packet). uses r i.x) at-packet-on.packet-on.ensures in
+    let u = at-times-named.times_named.ensures.0 ∙ ap (λ (r : Packet). uses r i.x) at-packet-on.packet-on.ensures in
     let e = question_6 i.x i.root.0 (oldest i.queue i.j) p _ _ at-held-after.held_after.ensures u c.before.at_least.ensures in
     sym (stage_unheld i.x i.root.0 (oldest i.queue i.j) p (failed e c.if1.true))
 
@@ -48,7 +48,7 @@ returns-2 c =
     let at-held-after = at-packet-on.before in
     let i = at-held-after.before.args in
     let p = packet_on i.queue i.j in
-    let u = at-times-named.times_named_lem.ensures.0 ∙ ap (λ (r : Packet). uses r i.x) at-packet-on.packet-on.ensures in
+    let u = at-times-named.times_named.ensures.0 ∙ ap (λ (r : Packet). uses r i.x) at-packet-on.packet-on.ensures in
     let e = question_6 i.x i.root.0 (oldest i.queue i.j) p _ _ at-held-after.held_after.ensures u at-if1.before.at_least.ensures in
     let after = rw (oldest_next i.queue i.j) at c.before.held-after2.ensures in
     stage_held i.x i.root.0 (oldest i.queue i.j) p (passed e at-if1.if1.false) _ after c.within.ensures

@@ -20,7 +20,7 @@ returns c =
     let at_cell = c.before in
     let at-capacity = at_cell.before in
     let i = at-capacity.before.before.args in
-    let e = cell_asked i.table.now i.x at_cell.is_cell_lem.ensures at-capacity.capacity-of.ensures in
+    let e = cell_asked i.table.now i.x at_cell.is_cell.ensures at-capacity.capacity-of.ensures in
     sym (no_cell_replays _ _ _ _ (failed e c.if1.true))
 
 sub-root-count : tie.Need-overflow-sub-root-count
@@ -28,7 +28,7 @@ sub-root-count c =
     let at_cell = c.before in
     let at-capacity = at_cell.before in
     let i = at-capacity.before.before.args in
-    let e = cell_asked i.table.now i.x at_cell.is_cell_lem.ensures at-capacity.capacity-of.ensures in
+    let e = cell_asked i.table.now i.x at_cell.is_cell.ensures at-capacity.capacity-of.ensures in
     let n = cell_number_lem (capacity i.table.now) i.x (passed e c.if1.false) in omega arith
 
 cast-root-count : tie.Need-overflow-cast-root-count
@@ -39,7 +39,7 @@ root-count-requires c κs =
     let at_cell = c.before in
     let at-capacity = at_cell.before in
     let i = at-capacity.before.before.args in
-    let e = cell_asked i.table.now i.x at_cell.is_cell_lem.ensures at-capacity.capacity-of.ensures in
+    let e = cell_asked i.table.now i.x at_cell.is_cell.ensures at-capacity.capacity-of.ensures in
     let l = cell_index (capacity i.table.now) i.x (passed e c.if1.false) in omega arith
 
 stage-sound-requires : tie.Need-stage-sound-requires
@@ -51,8 +51,8 @@ returns-2 c =
     let at_cell = at-if1.before in
     let at-capacity = at_cell.before in
     let i = at-capacity.before.before.args in
-    let e = cell_asked i.table.now i.x at_cell.is_cell_lem.ensures at-capacity.capacity-of.ensures in
-    cell_replays i.table.now i.queue i.j i.x (passed e at-if1.if1.false) _ _ c.before.root_count_lem.ensures c.stage-sound.ensures
+    let e = cell_asked i.table.now i.x at_cell.is_cell.ensures at-capacity.capacity-of.ensures in
+    cell_replays i.table.now i.queue i.j i.x (passed e at-if1.if1.false) _ _ c.before.root_count.ensures c.stage-sound.ensures
 
 pub word-replays-spec : {M : Type 1} → statement M
 word-replays-spec =

@@ -16,7 +16,7 @@ sub-result : tie.Need-overflow-sub-result
 sub-result c =
     let start = c.before.before.before in
     let i = start.args in
-    let b = cell_bounds i.c i.w c.before.is_cell_lem.ensures c.if1.true in
+    let b = cell_bounds i.c i.w c.before.is_cell.ensures c.if1.true in
     omega arith
 
 cast-result : tie.Need-overflow-cast-result
@@ -29,15 +29,15 @@ shared-slice-read-result : tie.Need-shared-slice-read-result
 shared-slice-read-result c =
     let start = c.before.before.before.before in
     let i = start.args in
-    let b = cell_bounds i.c i.w c.before.before.is_cell_lem.ensures c.before.if1.true in
+    let b = cell_bounds i.c i.w c.before.before.is_cell.ensures c.before.if1.true in
     let l : i.w - 1 < i.c = omega arith in
     omega (arith, word_within_lem i.c (i.w - 1) (length i.scratch.now) l start.requires)
 
 returns : tie.Need-returns
-returns c = cell_within _ _ _ (sym c.before.before.is_cell_lem.ensures ∙ c.before.if1.true)
+returns c = cell_within _ _ _ (sym c.before.before.is_cell.ensures ∙ c.before.if1.true)
 
 returns-2 : tie.Need-returns-2
-returns-2 c = sym (no_cell_within _ _ _ (sym c.before.is_cell_lem.ensures ∙ c.if1.false))
+returns-2 c = sym (no_cell_within _ _ _ (sym c.before.is_cell.ensures ∙ c.if1.false))
 
 pub word-within-spec : {M : Type 1} → statement M
 word-within-spec =

@@ -41,7 +41,7 @@ returns-2 c q =
     let t = i.table.now in
     let words = at_words.words-asked in
     cell_yes t (placed q i.place i.count) i.n i.x i.y words.result at_told.enum-told2.given.1 (words.ensures q)
-    (cellular t _ i.x c.before.before.capacity-of.ensures c.before.is_cell_lem.ensures c.if1.true)
+    (cellular t _ i.x c.before.before.capacity-of.ensures c.before.is_cell.ensures c.if1.true)
 
 returns-3 : tie.Need-returns-3
 returns-3 c q =
@@ -51,7 +51,7 @@ returns-3 c q =
     let t = i.table.now in
     let words = at_words.words-asked in
     cell_5 t (placed q i.place i.count) i.n i.x i.y words.result at_told.enum-told2.given.1 (words.ensures q)
-    (cellular t _ i.x c.before.before.capacity-of.ensures c.before.is_cell_lem.ensures c.if1.false)
+    (cellular t _ i.x c.before.before.capacity-of.ensures c.before.is_cell.ensures c.if1.false)
 
 pub cell-asked-spec : {M : Type 1} → statement M
 cell-asked-spec =

@@ -19,12 +19,12 @@ abbrev start : tie.Else1 → tie.Start
 start c = c.before.before.before
 
 in-yes : (c : tie.Else1) (q : Queue) → in_range (start c).args.table.now (placed q (start c).args.place (start c).args.count) ≡ true
-in-yes c q = yes (c.before.in_range_lem.ensures q) c.if1.false
+in-yes c q = yes (c.before.in_range.ensures q) c.if1.false
 
 returns : tie.Need-returns
 returns c q =
     let i = c.before.before.before.args in
-    sym (words_1 i.table.now (placed q i.place i.count) i.n i.x i.y (no (c.before.in_range_lem.ensures q) c.if1.true))
+    sym (words_1 i.table.now (placed q i.place i.count) i.n i.x i.y (no (c.before.in_range.ensures q) c.if1.true))
 
 number-in-range-requires : tie.Need-number-in-range-requires
 number-in-range-requires c κs = search rules

@@ -29,7 +29,7 @@ returns c z w =
     let x = at_x.tally-of in
     let y = at_y.tally-of2 in
     let same = at_same.matched in
-    let first = c.before.first_free_lem in
+    let first = c.before.first_free in
     cons_asked i.table.now q i.x i.y x.result y.result same.result first.result _
     (x.ensures.0 w) (y.ensures.0 w) same.ensures.0 first.ensures (c.cons-tests.ensures q) z
 

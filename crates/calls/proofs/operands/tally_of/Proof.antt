@@ -26,7 +26,7 @@ is-cell-requires c κs = search rules
 
 -- what the test says of the table's own C
 a-cell : (c : tie.Then1) → is_cell (capacity c.before.before.before.before.args.table.now) c.before.before.before.before.args.w ≡ true
-a-cell c = cellular _ _ _ c.before.before.capacity-of.ensures c.before.is_cell_lem.ensures c.if1.true
+a-cell c = cellular _ _ _ c.before.before.capacity-of.ensures c.before.is_cell.ensures c.if1.true
 
 sub-index : tie.Need-overflow-sub-index
 sub-index c = omega (arith, cell_number_lem _ _ (a-cell c))
@@ -60,7 +60,7 @@ returns c =
     let ps = packets at-sums.before.before.before.before.before in
     let held = c.before.before.with in
     let pointers = c.with2 in
-    let root_count_lem = c.before.before.before.root_count_lem in
+    let root_count_lem = c.before.before.before.root_count in
     let cell-count = c.before.cell-count in
     let w = a-cell at-sums.before in (
       λ v. record {
@@ -77,7 +77,7 @@ returns-2 c =
     let i = start.args in
     let t = i.table.now in
     let ps = packets start in
-    let w = cellular t _ i.w c.before.before.capacity-of.ensures c.before.is_cell_lem.ensures c.if1.false in
+    let w = cellular t _ i.w c.before.before.capacity-of.ensures c.before.is_cell.ensures c.if1.false in
     (λ v. record { held = counter_other root 2 t (ps v) i.w w; pointers = counter_other cell 0 t (ps v) i.w w }, search rules)
 
 pub tally-of-spec : {M : Type 1} → statement M

@@ -85,7 +85,7 @@ returns-2 c = rw (c.before.before.before.call2.given.1, c.packet2.ensures, c.bef
 
 returns-3 : tie.Need-returns-3
 unfolding packet_of
-returns-3 c = rw (c.before.before.before.call3.given.1, c.packet3.ensures, c.before.first_free_lem.ensures)
+returns-3 c = rw (c.before.before.before.call3.given.1, c.packet3.ensures, c.before.first_free.ensures)
 
 returns-4 : tie.Need-returns-4
 unfolding packet_of

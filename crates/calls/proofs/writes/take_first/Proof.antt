@@ -35,8 +35,8 @@ returns c =
     let at_next = at_last.before.before in
     let at_first = at_next.before.before in
     let i = at_first.before.before.before.args in
-    taken_first i.table.now _ _ at_first.first_free_lem.result at_next.field.result at_last.end-without-first.result i.x i.y
-    at_first.first_free_lem.ensures
+    taken_first i.table.now _ _ at_first.first_free.result at_next.field.result at_last.end-without-first.result i.x i.y
+    at_first.first_free.ensures
     at_next.field.ensures at_last.end-without-first.ensures at-ends.set-ends.ensures at_new.set_new.ensures
 
 pub take_first_spec : {M : Type 1} → statement M

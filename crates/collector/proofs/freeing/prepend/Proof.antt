@@ -30,7 +30,7 @@ returns c =
     let at-set-free = at-if1.before.before.before in
     let at-first-free = at-set-free.before.before.before.before in
     let i = at-first-free.before.before.before.args in
-    prepend_none i.table.now i.index _ at-first-free.first_free_lem.ensures _ at-set-free.set_Free.ensures at-if1.if1.true _
+    prepend_none i.table.now i.index _ at-first-free.first_free.ensures _ at-set-free.set_Free.ensures at-if1.if1.true _
     c.before.before.set-ends.ensures
 
 add-set-ends-3 : tie.Need-overflow-add-set-ends-3
@@ -49,7 +49,7 @@ returns-2 c =
     let at-last-free = at-set-free.before.before in
     let at-first-free = at-last-free.before.before in
     let i = at-first-free.before.before.before.args in
-    prepend_some i.table.now i.index _ at-first-free.first_free_lem.ensures _ at-set-free.set_Free.ensures at-if1.if1.false _
+    prepend_some i.table.now i.index _ at-first-free.first_free.ensures _ at-set-free.set_Free.ensures at-if1.if1.false _
     at-last-free.last-free.ensures _ c.before.before.set-ends2.ensures
 
 pub prepend-spec : {M : Type 1} → statement M

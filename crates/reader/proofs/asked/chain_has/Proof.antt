@@ -22,7 +22,7 @@ decreases-loop table n c w₀ rest₀ w rest = rest
 is-a-cell : (c : tie.Else1 invariant-loop decreases-loop) → is_cell (capacity c.before.before.before.before.before.before.before.args.table.now) c.before.before.before.loop.w ≡ true
 is-a-cell c =
     let at-capacity = c.before.before.before.before.before in
-    sym (ap (λ n. is_cell n c.before.before.before.loop.w) at-capacity.capacity-of.ensures) ∙ sym c.before.is_cell_lem.ensures ∙ not-false c.before.is_cell_lem.result c.if1.false
+    sym (ap (λ n. is_cell n c.before.before.before.loop.w) at-capacity.capacity-of.ensures) ∙ sym c.before.is_cell.ensures ∙ not-false c.before.is_cell.result c.if1.false
 
 -- and the table has its words
 cell_within : (c : tie.Else1 invariant-loop decreases-loop) →
@@ -44,7 +44,7 @@ first-free-requires c κs = search rules
 loop-holds : tie.Need-loop-init invariant-loop decreases-loop
 loop-holds c =
     let s = c.before.before.before in
-    ap (chain_has s.args.n s.args.table.now) c.first_free_lem.ensures
+    ap (chain_has s.args.n s.args.table.now) c.first_free.ensures
 
 is-cell-requires : tie.Need-is-cell-requires invariant-loop decreases-loop
 is-cell-requires c κs = search rules
@@ -54,7 +54,7 @@ returns c =
     let s = c.before.before.before.before.before.before.before in
     let l = c.before.before.before.loop in
     let at-capacity = c.before.before.before.before.before in
-    let no_cell = sym (ap (λ n. is_cell n l.w) at-capacity.capacity-of.ensures) ∙ sym c.before.is_cell_lem.ensures ∙ not-true c.before.is_cell_lem.result c.if1.true in
+    let no_cell = sym (ap (λ n. is_cell n l.w) at-capacity.capacity-of.ensures) ∙ sym c.before.is_cell.ensures ∙ not-true c.before.is_cell.result c.if1.true in
     chain_ends l.rest s.args.table.now l.w (omega arith) no_cell ∙ l.invariant
 
 cast-field : tie.Need-overflow-cast-field invariant-loop decreases-loop

@@ -16,7 +16,7 @@ abbrev start : tie.Else1 → tie.Start
 start c = c.before.before.before.before
 
 in-yes : (c : tie.Else1) (q : Queue) → in_range (start c).args.table.now (placed q (start c).args.place (start c).args.count) ≡ true
-in-yes c q = yes (c.before.in_range_lem.ensures q) c.if1.false
+in-yes c q = yes (c.before.in_range.ensures q) c.if1.false
 
 in-range-requires : tie.Need-in-range-requires
 in-range-requires c κs = search rules
@@ -24,7 +24,7 @@ in-range-requires c κs = search rules
 returns : tie.Need-returns
 returns c q =
     let i = c.before.before.before.before.args in
-    asked_first i.table.now (placed q i.place i.count) i.text.now (no (c.before.in_range_lem.ensures q) c.if1.true)
+    asked_first i.table.now (placed q i.place i.count) i.text.now (no (c.before.in_range.ensures q) c.if1.true)
 
 scan-requires : tie.Need-scan-requires
 scan-requires c κs = search rules

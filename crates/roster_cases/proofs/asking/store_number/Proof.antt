@@ -15,7 +15,7 @@ returns c = search rules
 
 scratch-enough-requires : tie.Need-scratch-enough-requires
 scratch-enough-requires c κs =
-    let shape = shape_is _ _ (sym (c.before.in_range_lem.ensures empty_queue) ∙ not-false _ c.if1.false) in
+    let shape = shape_is _ _ (sym (c.before.in_range.ensures empty_queue) ∙ not-false _ c.if1.false) in
     let table = shape.table in omega arith
 
 returns-2 : tie.Need-returns-2

@@ -1,0 +1,11 @@
+use borrow.Author.Rules.{rules}
+use Rattle.machine.specs.Packets.{kind_of, plus}
+use Rattle.counts.proofs.Naming.{named_three, packet_named}
+use Rattle.counts.proofs.names.name_packet.Goals as goal
+
+pub returns : goal.returns
+returns c =
+    let i = c.args in
+    packet_named i.table.now _ i.kind i.a i.b i.c
+    (named_three plus i.table.now _ _ _ (kind_of i.kind) i.a i.b i.c _ _ _ c.names_of-names.ensures
+    c.name_up.ensures c.name_up-2.ensures c.name_up-3.ensures)

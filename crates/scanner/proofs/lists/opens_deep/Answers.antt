@@ -1,0 +1,5 @@
+use borrow.Author.Rules.{rules}
+use Rattle.scanner.proofs.lists.opens_deep.Goals as goal
+
+pub returns : goal.returns
+returns c = rw c.if-s.false

@@ -1,0 +1,6 @@
+use borrow.Author.Rules.{rules}
+use Rattle.scanner.proofs.ModeLaws.{pops}
+use Rattle.scanner.proofs.modes.pop.Goals as goal
+
+pub returns : goal.returns
+returns c = pops _ _ c.requires.2 c.requires.0

@@ -1,0 +1,35 @@
+use mathlib.Core.Path.{sym, ap, ◌∙◌}
+use Prim.Native.Nat.{◌-◌}
+use native.Mathlib.Omega.{arith}
+use lib.ListN.{length}
+use borrow.Author.Rules.{rules}
+use Rattle.scanner.specs.Scans.{judged}
+use Rattle.scanner.specs.Scanning.{nothing, Scanning}
+use Rattle.scanner.proofs.ScanLaws.{long_outside, short_judged}
+use Rattle.scanner.proofs.ModeLaws.{none_stacked}
+use Rattle.scanner.proofs.scan.Goals as goal
+
+pub returns-then-text-gt-MOST_TEXT : goal.returns-then-text-gt-MOST_TEXT
+returns-then-text-gt-MOST_TEXT c = long_outside _ c.if-text-gt-MOST_TEXT.true
+
+pub loop-s-init : goal.loop-s-init
+loop-s-init c = c.start-s.ensures _ _ c.if-text-gt-MOST_TEXT.false none_stacked
+
+pub loop-s-smaller : goal.loop-s-smaller
+loop-s-smaller c =
+    let further = rw c.in-Within.is at c.take_token-taken.ensures in
+    omega (arith, further.1, c.loop-s-test.true)
+
+pub loop-s-preserved : goal.loop-s-preserved
+loop-s-preserved c = (rw c.in-Within.is at c.take_token-taken.ensures).0
+
+pub returns-in-Outside : goal.returns-in-Outside
+returns-in-Outside c =
+    let x = c.loop-s.invariant in
+    let outside = rw c.in-Outside.is at c.take_token-taken.ensures in
+    ap (judged _) (sym outside) ∙ short_judged _ x.short
+
+pub returns : goal.returns
+returns c =
+    let x = c.loop-s.invariant in
+    c.judge.ensures _ _ x c.loop-s-test.false ∙ short_judged _ x.short
