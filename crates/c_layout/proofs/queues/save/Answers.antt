@@ -5,7 +5,7 @@ use Rattle.c_layout.proofs.queues.save.Goals as goal
 
 pub returns : goal.returns
 returns c =
-    saved_is c.args.t2 _ _ _ _ _ (record {
+    saved_is c.args.queue _ _ _ _ _ (record {
       arrays = record {
         kinds = search (rules, c.well_formed);
         a = search (rules, c.well_formed);

@@ -1,0 +1,53 @@
+use mathlib.Core.Bool.{not}
+use mathlib.Core.Path.{ap}
+use mathlib.Core.Path.{◌≡◌, sym, ◌∙◌}
+use mathlib.Core.Logic.{⊎_elim}
+use mathlib.Core.Bool.{true}
+use Prim.Native.Nat.{ℕ, suc, ◌-◌, ◌≤◌}
+use native.Mathlib.Omega.{arith}
+use borrow.Author.Tests.{eq-eqb, ne_eqb}
+use borrow.Author.Rules.{rules}
+use Rattle.machine.specs.Audit.{cell_sound, cells_sound}
+use Rattle.machine.specs.Range.{every}
+use Rattle.machine.specs.Table.{left, right, capacity}
+use Rattle.machine.proofs.Range.{every_at}
+use Rattle.audit_cells.specs.Cells.{field_holds}
+use Rattle.audit_cells.proofs.Cells.{cell_parts, counts_break, field_break}
+use Rattle.audit_cells.proofs.Tests.{passed, failed, every_none, every_more}
+use Rattle.audit_cells.proofs.fields.cells_sound.Goals as goal
+
+abbrev invariant-cells : tie.invariant-cells
+invariant-cells table c index₀ index = (index ≤ c) × (every index (cell_sound table) ≡ true)
+
+abbrev decreases-cells : tie.decreases-cells
+decreases-cells table c index₀ index = c - index
+
+pub cells-init : goal.cells-init
+cells-init c = (omega arith, every_none _)
+
+pub loop-k-init : goal.loop-k-init
+loop-k-init c = (omega arith, every_none _)
+
+pub loop-k-preserved : goal.loop-k-preserved
+loop-k-preserved c = (omega arith, every_more _ _ c.loop-k.invariant.1 (passed c.field_holds.ensures (ap not c.if-not-field_holds.false)))
+
+pub cells-preserved : goal.cells-preserved
+cells-preserved c =
+    let t = c.args.table.now in
+    let i = c.cells.index in
+    let f : (k : ℕ) → k ≤ right → field_holds t i k ≡ true = λ k l. every_at c.loop-k.k (field_holds t i) c.loop-k.invariant.1 k (omega arith) in
+    let counts = passed c.counts_sound.ensures (ap not c.if-not-counts_sound.false) in
+    (omega arith, every_more _ _ c.cells.invariant.1 (cell_parts t i counts (f left (omega arith)) (f right (omega arith))))
+
+pub returns : goal.returns
+unfolding cells_sound
+returns c =
+    let t = c.args.table.now in
+    let i = c.cells.index in
+    let n = c.capacity_of-c.result in
+    ⊎_elim
+    (λ w. let e : i ≡ capacity t = omega arith in eq-eqb i n (omega arith) ∙ sym (rw (← e) c.cells.invariant.1))
+    (⊎_elim (λ w. let l = w.0.taken in ne_eqb i n (omega arith) ∙ sym (counts_break t i (omega arith) (failed w.1.ensures w.2.taken)))
+    (λ w. let l = w.0.taken in let m = w.4.taken in
+    ne_eqb i n (omega arith) ∙ sym (field_break t i (omega arith) w.3.k (omega arith) (failed w.5.ensures w.6.taken))))
+    c.cells-test.branch

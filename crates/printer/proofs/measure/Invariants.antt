@@ -1,0 +1,12 @@
+use borrow.Author.Rules.{rules}
+use mathlib.Core.Path.{refl, sym}
+use native.Mathlib.Omega.{arith}
+use Rattle.printer.specs.Walk.{Measuring}
+use Rattle.printer.proofs.PassLaws.{measuring_none, measured_all, measured_deep, measured_without, measuring_more}
+use Rattle.printer.proofs.measure.Given as goal
+
+abbrev pub invariant-loop-piece : goal.invariant-loop-piece
+invariant-loop-piece l = Measuring l.room l.table l.word l.left l.walk l.rests
+
+abbrev pub decreases-loop-piece : goal.decreases-loop-piece
+decreases-loop-piece l = l.left

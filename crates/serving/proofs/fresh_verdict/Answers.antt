@@ -1,0 +1,5 @@
+use borrow.Author.Rules.{rules}
+use Rattle.serving.proofs.fresh_verdict.Goals as goal
+
+pub returns-in-Refused : goal.returns-in-Refused
+returns-in-Refused c = rw (c.in-Refused.is, c.number.ensures)
