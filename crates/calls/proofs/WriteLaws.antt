@@ -5,10 +5,7 @@ use mathlib.Core.List.{List, [], ◌∷◌}
 use Prim.Native.Nat.{ℕ, pred, ◌-◌}
 use native.Mathlib.Omega.{arith}
 use lib.Dec.{eqb}
-use denote.Enum.Declared.{tag_of}
-use types.Run.{OneOf, miss}
 use Rattle.machine.specs.declared.RowCall as declared
-use Rattle.machine.specs.contracts.RowCall.{the_type}
 use Rattle.machine.specs.Table.{left, new_cell, first_free, last_free, word_at, put_word, put_ends, put_cell}
 use Rattle.machine.specs.Calls.{cons, field, without_first, written}
 use Rattle.machine.specs.Answers.{call_of}
@@ -27,12 +24,13 @@ pub put_field : (t u : List ℕ) (x k y : ℕ) → u ≡ put_word t (x - 1) k y 
 put_field t u x k y e = e ∙ ap (λ (i : ℕ). put_word t i k y) (omega arith)
 
 -- the other calls are the enum's first two and last two
-pub unwritten : (t : List ℕ) (call : declared.RowCall) → OneOf (0 ∷ 1 ∷ 5 ∷ 6 ∷ []) (tag_of the_type call) → t ≡ written t (call_of call)
+pub unwritten : (t : List ℕ) (call : declared.RowCall) → ((x y : ℕ) → call ≡ declared.RowCall.Cons x y → ⊥)
+    → ((x y : ℕ) → call ≡ declared.RowCall.SetLeft x y → ⊥) → ((x y : ℕ) → call ≡ declared.RowCall.SetRight x y → ⊥) → t ≡ written t (call_of call)
 unfolding written
-unwritten t (declared.RowCall.Car x) h = refl
-unwritten t (declared.RowCall.Cdr x) h = refl
-unwritten t (declared.RowCall.Cons x y) h = absurd (miss (0 ∷ 1 ∷ 5 ∷ 6 ∷ []) 2 tt h)
-unwritten t (declared.RowCall.SetLeft x y) h = absurd (miss (0 ∷ 1 ∷ 5 ∷ 6 ∷ []) 3 tt h)
-unwritten t (declared.RowCall.SetRight x y) h = absurd (miss (0 ∷ 1 ∷ 5 ∷ 6 ∷ []) 4 tt h)
-unwritten t (declared.RowCall.Up x n) h = refl
-unwritten t (declared.RowCall.Down x n) h = refl
+unwritten t (declared.RowCall.Car x) a b c = refl
+unwritten t (declared.RowCall.Cdr x) a b c = refl
+unwritten t (declared.RowCall.Cons x y) a b c = absurd (a x y refl)
+unwritten t (declared.RowCall.SetLeft x y) a b c = absurd (b x y refl)
+unwritten t (declared.RowCall.SetRight x y) a b c = absurd (c x y refl)
+unwritten t (declared.RowCall.Up x n) a b c = refl
+unwritten t (declared.RowCall.Down x n) a b c = refl

@@ -1,0 +1,9 @@
+use borrow.Author.Rules.{rules}
+use Rattle.calls.proofs.FreshLaws.{next_last, next_on}
+use Rattle.calls.proofs.chain.next_cell.Goals as goal
+
+pub returns-then-i-c : goal.returns-then-i-c
+returns-then-i-c c = next_last _ _ c.if-i-c.true
+
+pub returns : goal.returns
+returns c = next_on _ _ c.if-i-c.false

@@ -1,0 +1,43 @@
+use Rattle.machine.specs.Queue.{placed}
+use Rattle.calls.proofs.EarlyLaws.{stored_behind}
+use Rattle.calls.proofs.CallLaws.{early_of}
+use borrow.Author.Rules.{rules}
+use Rattle.calls.proofs.early.early_asked.Goals as goal
+
+pub returns-in-Car : goal.returns-in-Car
+returns-in-Car c q =
+    let i = c.args in
+    early_of i.table.now (placed q i.place i.count) c.cell_asked.result i.call _ c.requires c.in-Car.is (c.cell_asked.ensures q)
+
+pub returns-in-Cdr : goal.returns-in-Cdr
+returns-in-Cdr c q =
+    let i = c.args in
+    early_of i.table.now (placed q i.place i.count) c.cell_asked-in-Cdr.result i.call _ c.requires c.in-Cdr.is (c.cell_asked-in-Cdr.ensures q)
+
+pub returns-in-Cons : goal.returns-in-Cons
+returns-in-Cons c q =
+    let i = c.args in
+    early_of i.table.now (placed q i.place i.count) c.stored_asked.result i.call _ c.requires c.in-Cons.is
+    (stored_behind _ _ _ _ c.stored_asked.ensures (c.words_asked.ensures q))
+
+pub returns-in-SetLeft : goal.returns-in-SetLeft
+returns-in-SetLeft c q =
+    let i = c.args in
+    early_of i.table.now (placed q i.place i.count) c.stored_asked-in-SetLeft.result i.call _ c.requires c.in-SetLeft.is
+    (stored_behind _ _ _ _ c.stored_asked-in-SetLeft.ensures (c.cell_asked-in-SetLeft.ensures q))
+
+pub returns-in-SetRight : goal.returns-in-SetRight
+returns-in-SetRight c q =
+    let i = c.args in
+    early_of i.table.now (placed q i.place i.count) c.stored_asked-in-SetRight.result i.call _ c.requires c.in-SetRight.is
+    (stored_behind _ _ _ _ c.stored_asked-in-SetRight.ensures (c.cell_asked-in-SetRight.ensures q))
+
+pub returns-in-Up : goal.returns-in-Up
+returns-in-Up c q =
+    let i = c.args in
+    early_of i.table.now (placed q i.place i.count) c.cell_asked-in-Up.result i.call _ c.requires c.in-Up.is (c.cell_asked-in-Up.ensures q)
+
+pub returns-in-Down : goal.returns-in-Down
+returns-in-Down c q =
+    let i = c.args in
+    early_of i.table.now (placed q i.place i.count) c.cell_asked-in-Down.result i.call _ c.requires c.in-Down.is (c.cell_asked-in-Down.ensures q)

@@ -1,0 +1,49 @@
+use mathlib.Core.Path.{◌≡◌, sym, ◌∙◌}
+use mathlib.Core.Bool.{false}
+use mathlib.Core.List.{[]}
+use Rattle.machine.specs.declared.Asked
+use Rattle.machine.specs.declared.Asked.{Asked}
+use Rattle.machine.specs.Calls.{row, store, reads_nil}
+use Rattle.machine.specs.Questions.{first_no, early}
+use Rattle.machine.specs.Answers.{call_of}
+use Rattle.machine.proofs.Answers.{asked_yes}
+use Rattle.calls.proofs.CallLaws.{early_shape, early_operands}
+use Rattle.calls.proofs.RowLaws.{early_refused, nil_called, refused_called}
+use borrow.Author.Rules.{rules}
+use Rattle.calls.proofs.row.Goals as goal
+
+pub returns-then-reads_nil : goal.returns-then-reads_nil
+returns-then-reads_nil c =
+    let i = c.args in
+    let r = call_of i.call in
+    let nil = sym c.reads_nil.ensures ∙ c.if-reads_nil.true in
+    let reply = c.nil_read in
+    nil_called i.table.now i.queue r reply.result.answer reply.result.queue (reply.ensures r nil) nil
+
+pub early_asked-asked-requires : goal.early_asked-asked-requires
+early_asked-asked-requires c = sym c.reads_nil.ensures ∙ c.if-reads_nil.false
+
+pub packet_of-packet-requires : goal.packet_of-packet-requires
+packet_of-packet-requires c =
+    let early = sym (asked_yes (c.early_asked-asked.ensures c.args.queue) c.in-Yes.is) in
+    let i = c.args in
+    let r = call_of i.call in
+    ((early_shape i.table.now i.queue r early).table, early_operands i.table.now i.queue r (sym c.reads_nil.ensures ∙ c.if-reads_nil.false) early)
+
+pub queue_and_write-requires : goal.queue_and_write-requires
+queue_and_write-requires c =
+    record { queues = sym c.reads_nil.ensures ∙ c.if-reads_nil.false; early = sym (asked_yes (c.early_asked-asked.ensures c.args.queue) c.in-Yes.is); packet = c.packet_of-packet.ensures }
+
+pub returns-in-No : goal.returns-in-No
+returns-in-No c =
+    let i = c.args in
+    let r = call_of i.call in
+    let asked = c.early_asked-asked in
+    let reply = c.refused in
+    refused_called i.table.now i.queue r reply.result.answer reply.result.queue
+    (early_refused i.table.now i.queue r asked.result c.in-No.refusal reply.result.answer reply.result.queue
+    (sym c.reads_nil.ensures ∙ c.if-reads_nil.false) (asked.ensures i.queue) c.in-No.is reply.ensures.0 reply.ensures.1)
+    _ reply.ensures.0
+
+pub returns-in-Yes : goal.returns-in-Yes
+returns-in-Yes c = c.queue_and_write.ensures
