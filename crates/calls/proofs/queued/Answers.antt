@@ -20,7 +20,7 @@ returns c =
     elim c.match-asked.branch [
       | in-Yes w ↦
           queued_done t i.queue p asked.result late value.result answer.result next w.in-Yes.is answer.ensures value.ensures
-          (appended_at i.queue next p w.slot_after-j.result w.slot_after-j.ensures w.next-is)
+          (appended_at i.queue next p w.slot_after-j.result w.slot_after-j.ensures.0 w.next-is)
       | in_default w ↦
           queued_refused t i.queue p asked.result late value.result w.in_default.field-0 answer.result next w.in_default.is answer.ensures w.next-is
     ]
