@@ -202,15 +202,16 @@ module _ (words : List ℕ) (count : ℕ) (starts : List ℕ) (dots : List Bool)
         )
 
   -- a space, and what is no token, is passed over
-  pub step_other : OneOf (0 ∷ 5 ∷ []) (tag_of the_type token) → Step words count starts dots opened t q
+  pub step_other : (token ≡ Token.Opening → ⊥) → (token ≡ Token.Closing → ⊥) → (token ≡ Token.Dot → ⊥) → ((v : ℕ) → token ≡ Token.Number v → ⊥)
+      → Step words count starts dots opened t q
   unfolding read_all
-  step_other h = (fits, go token h)
+  step_other a b d n = (fits, go token a b d n)
     where
-      go : (k : Token) → OneOf (0 ∷ 5 ∷ []) (tag_of the_type k)
+      go : (k : Token) → (k ≡ Token.Opening → ⊥) → (k ≡ Token.Closing → ⊥) → (k ≡ Token.Dot → ⊥) → ((v : ℕ) → k ≡ Token.Number v → ⊥)
           → reading_in words count starts dots opened t q ≡ read_all code_cons (reading_in words count starts dots opened t q) (marks_of_token k)
-      go Token.Blank m = refl
-      go Token.Opening m = absurd (miss (0 ∷ 5 ∷ []) 1 tt m)
-      go Token.Closing m = absurd (miss (0 ∷ 5 ∷ []) 2 tt m)
-      go Token.Dot m = absurd (miss (0 ∷ 5 ∷ []) 3 tt m)
-      go (Token.Number v) m = absurd (miss (0 ∷ 5 ∷ []) 4 tt m)
-      go Token.Foreign m = refl
+      go Token.Blank a b d n = refl
+      go Token.Opening a b d n = absurd (a refl)
+      go Token.Closing a b d n = absurd (b refl)
+      go Token.Dot a b d n = absurd (d refl)
+      go (Token.Number v) a b d n = absurd (n v refl)
+      go Token.Foreign a b d n = refl

@@ -1,0 +1,39 @@
+use mathlib.Core.Bool.{not}
+use mathlib.Core.Path.{ap}
+use mathlib.Core.Path.{◌≡◌, sym, ◌∙◌}
+use mathlib.Core.Bool.{true}
+use borrow.Author.Rules.{rules}
+use Rattle.machine.specs.declared.Queue.{Queue}
+use Rattle.machine.specs.Queue.{placed, empty_queue}
+use Rattle.machine.specs.Questions.{in_range}
+use Rattle.machine.proofs.Questions.{shape_is}
+use Rattle.calls.proofs.EarlyLaws.{yes, no}
+use Rattle.reader.proofs.CalledLaws.{asked_first, asked_outside, asked_deep, asked_tree}
+use Rattle.reader.proofs.StorableLaws.{found_within}
+use Rattle.reader.proofs.asked.text_asked.Goals as goal
+
+pub returns-then-not-in_range : goal.returns-then-not-in_range
+returns-then-not-in_range c q =
+    let i = c.args in
+    asked_first i.table.now (placed q i.place i.count) i.text.now (no (c.in_range.ensures q) (ap not c.if-not-in_range.true))
+
+pub tree_asked-requires : goal.tree_asked-requires
+tree_asked-requires c =
+    let shape = shape_is _ _ (yes (c.in_range.ensures empty_queue) (ap not c.if-not-in_range.false)) in
+    (shape.table, shape.queue.count, found_within _ _ _ (sym c.scan-scanned.ensures ∙ c.in-Tree.is))
+
+pub returns-in-Outside : goal.returns-in-Outside
+returns-in-Outside c q =
+    let i = c.args in
+    asked_outside i.table.now (placed q i.place i.count) i.text.now (yes (c.in_range.ensures q) (ap not c.if-not-in_range.false)) c.scan-scanned.ensures c.in-Outside.is
+
+pub returns-in-TooDeep : goal.returns-in-TooDeep
+returns-in-TooDeep c q =
+    let i = c.args in
+    asked_deep i.table.now (placed q i.place i.count) i.text.now (yes (c.in_range.ensures q) (ap not c.if-not-in_range.false)) c.scan-scanned.ensures c.in-TooDeep.is
+
+pub returns-in-Tree : goal.returns-in-Tree
+returns-in-Tree c q =
+    let i = c.args in
+    c.tree_asked.ensures
+    ∙ asked_tree i.table.now (placed q i.place i.count) i.text.now (yes (c.in_range.ensures q) (ap not c.if-not-in_range.false)) c.scan-scanned.ensures _ _ c.in-Tree.is
