@@ -2,7 +2,7 @@
 """dependencies.py [ROOT]: crates.txt lists for each crate exactly the crates that its own files name, and no others.
 
 A crate names another where a source has its name at the head of a path (`use NAME::`, `NAME::`), or where a source, a definition or a proof
-imports its definitions or laws (`Rattle·NAME.`). Comments and strings do not count. Each difference is printed, and the exit status is then 1."""
+imports its definitions or laws (`Rattle.NAME.`). Comments and strings do not count. Each difference is printed, and the exit status is then 1."""
 import os
 import re
 import sys
@@ -21,8 +21,8 @@ UNNAMED = {
     'up_and_step': REPLIES,
 }
 
-SOURCE = re.compile(r'"(?:\\.|[^"\\])*"|//[^\n]*|(?<![\w:·.])([a-z_][a-z_0-9]*)::|Rattle·([a-z_][a-z_0-9]*)\.')
-LOGIC = re.compile(r'--[^\n]*|Rattle·([a-z_][a-z_0-9]*)\.')
+SOURCE = re.compile(r'"(?:\\.|[^"\\])*"|//[^\n]*|(?<![\w:.])([a-z_][a-z_0-9]*)::|\bRattle\.([a-z_][a-z_0-9]*)\b')
+LOGIC = re.compile(r'--[^\n]*|\bRattle\.([a-z_][a-z_0-9]*)\b')
 MODULE = re.compile(r'^\s*(?:pub(?:\(crate\))?\s+)?mod\s+(\w+)\s*;', re.M)
 
 
@@ -34,7 +34,8 @@ def listed(root):
             line = line.split('#')[0].strip()
             if line:
                 name, _, rest = line.partition(':')
-                crates[name.strip()] = rest.split()
+                # Behind the name stands what it is built as, if it is no library or program of Rattle's.
+                crates[name.split()[0]] = rest.split()
     return crates
 
 

@@ -90,7 +90,7 @@ same 'the words of the scratch'
 tr -s '* \n' ' ' <"$header" | grep -o 'words for each cell: [a-z, ]*\. Cell x begins at word [^.]*\.' >out
 for definition in left right root_count cell_count state name_count; do
     echo "$(number_of "$definition") $definition"
-done | sort -n | sed 's/^[0-9]* //; s/_/ /' | paste -s -d , - |
+done | sort -n | awk '$1 == NR - 1 { print $2 }' | tr _ ' ' | paste -s -d , - |
     sed "s/,/, /g; s/.*/words for each cell: &. Cell x begins at word $before + $each (x - 1)./" >defined
 same 'the words of a cell'
 
