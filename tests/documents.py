@@ -303,6 +303,35 @@ def edits():
         yield f"{edit}: not cited in docs/TRACE.md"
 
 
+def why_unfit(edit, crate):
+    """Why `rt` could not apply the edit: it calls such an edit bad, and passes. As `rt` reads it, each old text stands once in what the earlier pairs left."""
+    name, old, texts, pairs = "", None, {}, 0
+    for line in text_of(edit).split("\n"):
+        if line.startswith("file: "):
+            name = f"crates/{crate}/{line[6:].strip()}"
+        elif line.startswith("old: "):
+            old = line[5:]
+        elif line.startswith("new:"):
+            if not name or not old:
+                return "a new text without its file or its old text"
+            if not os.path.isfile(path(name)):
+                return f"there is no {name}"
+            text = texts.setdefault(name, text_of(name))
+            if text.count(old) != 1:
+                return f"{text.count(old)} times in {name}: {old}"
+            texts[name] = text.replace(old, line[4:].removeprefix(" "))
+            old, pairs = None, pairs + 1
+    return None if pairs else "no pair of an old and a new text"
+
+
+def fits():
+    for edit in sorted(Repository().edits):
+        name = (f"crates/{edit}" if "/must-fail/" in edit else edit) + ".edit"
+        why = why_unfit(name, name.split("/")[1])
+        if why:
+            yield f"{name}: {why}"
+
+
 # Counts.
 
 NUMBERS = {name: number for number, name in enumerate("no one two three four five six seven eight nine ten eleven twelve".split())}
@@ -520,7 +549,7 @@ def dependencies():
     return differences(ROOT)
 
 
-TESTS = {test.__name__: test for test in (names, edits, counts, pictures, links, tables, dependencies)}
+TESTS = {test.__name__: test for test in (names, edits, fits, counts, pictures, links, tables, dependencies)}
 
 if __name__ == "__main__":
     for offence in TESTS[sys.argv[1]]():
