@@ -193,11 +193,13 @@ def citations(document):
 
 # Names: `File.name` and what is like it.
 
-NAME = r"[A-Za-z][\w′-]*"
+NAME = r"[A-Za-z][\w'-]*"
 # Words of the language, of a session, of a proof's script and of tools, which name nothing of the repository.
-WORDS = set("""OK NO BAD IDLE ACCEPTED _ a b c r s s′ t1 t2 cc rw if use const static return requires ensures unfoldable omega simp search proved setl setr
-loop-again loop-holds loop-less returns returns-2 memcpy memset size_t u16 rt stdout check row_ rattle-kit-5b-plain B C U""".split())
-EXAMPLES = {"File.name", "p.b", "p.c", "Lts.antt", "reply.queue"}
+WORDS = set("""OK NO BAD IDLE ACCEPTED _ a b c l r s s' cc rw if use const static return match requires ensures unfoldable omega simp search proved setl setr
+returns in_range-requires overflow_add-i loop-i-init loop-i-preserved loop-i-smaller memcpy memset size_t u16 rt stdout check row_ B C U""".split())
+EXAMPLES = {"File.name", "p.b", "p.c", "reply.queue", "proofs/FUNCTION", "Answers.antt", "Invariants.antt", "Proof.antt"}
+# What an answer or an invariant cites: the facts of its goal by step, and the variables of its loop.
+STEP = re.compile(r"[cl](?:\.[\w-]+)+")
 # CRATE, NAME and the like stand for any.
 PLACEHOLDER = re.compile(r"(?:^|/)[A-Z]{4,}\b")
 FILE = re.compile(r"[\w./-]+\.(?:rt|c|h|sh|py|md|txt|list|inputs|outputs|sums|session|edit|rs|awk|svg)")
@@ -274,7 +276,7 @@ def names():
         lists = {}
         for cited in citations(document):
             words = cited.words
-            if words in EXAMPLES or FILE.fullmatch(words) or "must-fail/" in words or words.startswith("evidence/"):
+            if words in EXAMPLES or FILE.fullmatch(words) or STEP.fullmatch(words) or "must-fail/" in words or words.startswith("evidence/"):
                 continue
             there = is_logic_path(repository, words, crate_before(repository, cited))
             if re.fullmatch(r"\w+(?:::\w+)+(?:\([\w, ]*\))?", words):
