@@ -163,22 +163,22 @@ compare() { # NAME C COUNT RUNS OURS REFERENCE PROGRAM...
 # A session, whose lines count.
 measure() { # NAME C
     # shellcheck disable=SC2086 # paths, which are words
-    compare "$1" "$2" "$(wc -l <"$work/in")" 1 target/bin/session reference_session $programs
+    compare "$1" "$2" "$(wc -l <"$work/in")" 1 crates/session/out/session reference_session $programs
 }
 # A load, whose drawn calls count. One run takes a few milliseconds, of which starting the program takes more than one: so a turn has 50 runs, and what
 # counts is 50 starts and 50 times the calls.
 measure_load() { # SEED C
     echo "$1 $2 65535" >"$work/in"
-    compare "load, seed $1" "$2" 65535 50 target/bin/load reference_load
+    compare "load, seed $1" "$2" 65535 50 crates/load/out/load reference_load
 }
 # Rounds of four calls from C and inside a Rattle program, so many that starting a program does not weigh. All calls must be done.
 measure_from_c() {
-    rt check up_and_step >/dev/null
-    rt staticlib c_store >"$work/said" 2>&1 || { tail -n 5 "$work/said" >&2; exit 1; }
+    ./prove_and_run up_and_step </dev/null >/dev/null
+    ./staticlib >"$work/said" 2>&1 || { tail -n 5 "$work/said" >&2; exit 1; }
     cc -O2 -Iinclude -o "$work/from_c" bench/up_and_step.c target/staticlib/libc_store.a
     calls=8000000
     echo $((calls / 4)) >"$work/in"
-    row=$(compare "up, step, down, step" 64 "$calls" 1 "$work/from_c" target/bin/up_and_step)
+    row=$(compare "up, step, down, step" 64 "$calls" 1 "$work/from_c" crates/up_and_step/out/up_and_step)
     [ "$(cat "$work/ours")" = "$calls" ] || { echo "calls were not done: $row" >&2; exit 1; }
     echo "| rounds of | C | calls | from C, million calls/s | in Rattle, million calls/s | ratio | from C, ns a call | in Rattle, ns a call | difference |"
     echo "|---|---|---|---|---|---|---|---|---|"
@@ -230,16 +230,16 @@ spent() { # PROGRAM C N KIND CALLS
 }
 measure_roster() { # NAME C N KIND CALLS PLAIN
     { seats "$2" "$3"; roster_calls "$4" 600 "$2"; } >"$work/in"
-    replies target/bin/roster_cases 600 >"$work/ours"
+    replies crates/roster_cases/out/roster_cases 600 >"$work/ours"
     if grep '^A' "$work/said" | grep -qv '^A 0 0 [01] [01] [01] '; then echo "not sound: $1, C = $2" >&2; exit 1; fi
     replies "$work/plain_roster" 600 >"$work/theirs"
     cmp -s "$work/ours" "$work/theirs" || { echo "replies differ: $1, C = $2" >&2; exit 1; }
-    ours=$(spent target/bin/roster_cases "$2" "$3" "$4" "$5")
+    ours=$(spent crates/roster_cases/out/roster_cases "$2" "$3" "$4" "$5")
     plain=$(spent "$work/plain_roster" "$2" "$3" "$4" "$6")
     awk -v row="| $1 | $2 | $5 | $6 |" -v a="$ours" -v b="$plain" 'BEGIN { printf "%s %.1f | %.3f | %.0f |\n", row, a, b, a / b }'
 }
 measure_rosters() {
-    rt check roster_cases >/dev/null
+    ./prove_and_run roster_cases </dev/null >/dev/null
     rustc -O -o "$work/plain_roster" bench/plain_roster.rs
     echo "| seat roster | C | calls | calls on the array | roster, us a call | plain array, us a call | ratio |"
     echo "|---|---|---|---|---|---|---|"
@@ -263,8 +263,8 @@ case ${1-} in
     ;;
 esac
 
-rt check session >/dev/null
-rt check load >/dev/null
+./prove_and_run session </dev/null >/dev/null
+./prove_and_run load </dev/null >/dev/null
 cargo build --release --offline --quiet --manifest-path reference/Cargo.toml
 reference=${CARGO_TARGET_DIR:-reference/target}/release/reference
 programs=
@@ -325,7 +325,7 @@ done
 least() {
     for _ in 1 2 3 4 5; do
         from=$(date +%s%N)
-        target/bin/session <"$work/in" >"$work/ours"
+        crates/session/out/session <"$work/in" >"$work/ours"
         echo $((($(date +%s%N) - from) / 1000))
     done | sort -n | head -n 1
 }

@@ -102,7 +102,8 @@ def crates():
     d.box("rules", 500, 30, 220, 48, "text", ["rules", "program: rule texts tried"])
     d.box("streams", 745, 110, 150, 52, "text", ["streams", "reads and writes"])
     # for C
-    d.box("c_store", 635, 195, 165, 52, "face", ["c_store", "the twelve calls for C"])
+    d.box("c_store_c", 635, 172, 88, 26, "face", ["c_store_c"])
+    d.box("c_store", 635, 212, 165, 42, "face", ["c_store", "the twelve calls for C"])
     d.box("c_layout", 820, 195, 130, 52, "code", ["c_layout", "queue, reply in C"])
     # tests
     d.box("up_and_step", 915, 110, 120, 52, "test", ["up_and_step", "for measuring"])
@@ -146,11 +147,12 @@ def crates():
     d.down("store_cases", "state_lines")
     # store_cases stands on the store, too
     d.line([(1075, 162), (1075, 178), (975, 178), (975, 288)])
-    # c_calls calls what C calls
-    d.line([(750, 54), (732, 54), (732, 193)])
+    # c_store_c exports what c_calls calls
+    d.line([(679, 198), (679, 210)])
+    d.line([(750, 54), (732, 54), (732, 210)])
     # so do up_and_step and c_store; c_layout knows the machine alone
     d.line([(962, 162), (962, 288)])
-    d.line([(717, 247), (717, 288)])
+    d.line([(717, 254), (717, 288)])
     d.line([(800, 221), (818, 221)])
     d.line([(885, 247), (885, 268), (1040, 268), (1040, 778)])
     # rule text: the printer knows the table, the reader makes calls' conses, the scanner knows the notation alone
@@ -218,7 +220,7 @@ def legend(d, x, y, entries):
 def call():
     d = Drawing(1060, 750)
     d.text(20, 28, "A row call: the line cons 1 0, third of a session", 15, "bold", "start")
-    d.box("parse", 20, 50, 190, 62, "text", ["line_text::parse", "bytes to a request", "requestOf"])
+    d.box("parse", 20, 50, 190, 62, "text", ["line_text::parse", "bytes to a request", "request_of"])
     d.box("serve", 240, 50, 190, 62, "text", ["session_lines", "one loop over the lines", "Feeds"])
     d.box("store", 460, 50, 190, 62, "face", ["store::row", "the public call", "Promise"])
     d.box("calls", 680, 50, 190, 62, "code", ["calls::row", "first asks, then writes", "RowCalled"])
@@ -226,8 +228,8 @@ def call():
     d.box("late", 790, 160, 200, 62, "code", ["queue, cells", "6, 9, 10: counts with their", "waiting changes; 8: free end"])
     d.box("append", 560, 262, 200, 62, "code", ["calls", "one packet more:", "kind 2, (1, 0, 2)"])
     d.box("write", 790, 262, 200, 62, "code", ["cells, counts", "the new cell gets both", "operands; 1 and 2 are named"])
-    d.box("put", 20, 262, 190, 62, "text", ["line_text::put_line", "3 OK 2", "outputLine"])
-    d.box("verdict", 240, 262, 190, 62, "text", ["serving::row_verdict", "a reply to a verdict", "verdictOf"])
+    d.box("put", 20, 262, 190, 62, "text", ["line_text::put_line", "3 OK 2", "output_line"])
+    d.box("verdict", 240, 262, 190, 62, "text", ["serving::row_verdict", "a reply to a verdict", "verdict_of"])
     for a, b in [("parse", "serve"), ("serve", "store"), ("store", "calls"), ("early", "late"), ("append", "write")]:
         x, y, w, h = d.boxes[a]
         u = d.boxes[b][0]

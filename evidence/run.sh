@@ -1,6 +1,8 @@
 #!/usr/bin/env bash
-# evidence/run.sh [CRATE..]: tries the must-fail edits that lie outside the merge gate, those of the named crates or all, in a copy of the repository.
-# A line for each edit: its name, refused or ACCEPTED, the seconds, and the place and text of its first error. The last line is 'N refused, M accepted'.
+# evidence/run.sh [CRATE..]: tries the must-fail edits that lie outside the merge gate, those of the named crates or all, in a copy of the repository, in which
+# they stand in the place of the gate's. There `rt ci CRATE..` proves these crates and those below them, where an earlier run on this machine has not passed the
+# same files, and tries the edits.
+# A line for each edit: its name, refused or ACCEPTED, and the place and text of its first error. The last line is 'N refused, M accepted'.
 # Exit status: 0 all refused, and at least one tried; 1 otherwise; 2 bad usage.
 set -u -o pipefail
 cd "$(dirname "$0")/.." || exit 2
@@ -30,7 +32,7 @@ wanted_crates() { # [CRATE..]
     for folder in evidence/*/; do [ -d "$folder" ] && basename "$folder"; done
 }
 
-# Copies the files of the repository as they stand, and what is proved already.
+# Copies the files of the repository as they stand, but what rt and cargo have made of them.
 copy_repository() {
     local part
     mkdir "$copy" || return
@@ -39,14 +41,8 @@ copy_repository() {
             if [ -e "$part" ] || [ -L "$part" ]; then printf '%s\0' "$part"; fi
         done | sort -zu | tar -cf - --null -T - | tar -xf - -C "$copy"
     else
-        tar -cf - --exclude=./target . | tar -xf - -C "$copy"
-    fi || return
-    [ -d target ] || return 0
-    mkdir "$copy/target" || return
-    for part in target/*; do
-        case $part in target/must-fail | target/goals | target/inc) continue ;; esac
-        cp -R "$part" "$copy/target/" || return
-    done
+        tar -cf - --exclude=./target --exclude=./reference/target --exclude='./crates/*/out' . | tar -xf - -C "$copy"
+    fi
 }
 
 # Puts the wanted crates' edits of this folder in the place of those that the gate tries; 'missing' has each edit that no line has told of yet.
@@ -63,23 +59,17 @@ place_edits() { # CRATE..
     done
 }
 
-# Prints the first error of a log, all its lines as one: the line that the pattern finds and the indented ones behind it.
-joined() { # PATTERN LOG
-    awk -v pattern="$1" 'seen && !/^  / { exit } seen { printf " %s", substr($0, 3) } !seen && $0 ~ pattern { seen = 1; printf "%s", $0 }' "$2"
-}
-
-tell_refused() { # CRATE/NAME SECONDS
-    local where=$copy/target/must-fail/$1 error said=''
-    error=$(joined '^[^ ]*: error' "$where/.log")
-    [ -n "$error" ] || error=$(joined '^note: [^ ]*:[0-9]+:[0-9]+:' "$where/.log")
-    error=${error//"$where/"/}
-    case $error in
-    *'has no `Need-'* | *'that can be named from here'*)
-        said=' THE PROOF FILE NO LONGER FITS, which shows nothing:'
+# What rt says behind 'refused, as it must be' is nothing, or in brackets that it says little, and the first error behind a colon.
+tell_refused() { # CRATE/NAME SAID
+    local said=${2#: }
+    case $2 in
+    ' (only because a proof file names what the edit took away'*)
+        said="THE PROOF FILE NO LONGER FITS, which shows nothing: ${2#*): }"
         unfit="$unfit $1"
         ;;
+    ' (only by a limit of the prover'*) said="BY A LIMIT OF THE PROVER, which shows little: ${2#*): }" ;;
     esac
-    printf '%s: refused (%s s)%s %s\n' "$1" "$2" "$said" "${error:0:360}"
+    printf '%s: refused: %s\n' "$1" "$said"
     refused=$((refused + 1))
 }
 
@@ -90,22 +80,21 @@ tell_accepted() { # CRATE/NAME WHY
 
 # Tells of one line that rt printed: of an edit, or that something is not as it should be.
 tell() { # LINE
-    local name rest seconds
+    local name rest
     case $1 in
     'rt: must-fail '*': '*)
         rest=${1#rt: must-fail }
         name=${rest%%:*}
+        name=${name%.edit}
         rest=${rest#*: }
-        seconds=$(sed -n 's/.*[( ]\([0-9]\{1,\}\) s)$/\1/p' <<<"$rest")
         missing=${missing/" $name "/ }
         case $rest in
-        'refused, as it must be '*) tell_refused "$name" "$seconds" ;;
-        'NOT REFUSED'*) tell_accepted "$name" " ($seconds s): the crate is still proved with this edit" ;;
-        *'did not reach the prover'*) tell_accepted "$name" ", since it shows nothing: $rest $(head -n 1 "$copy/target/must-fail/$name/.log")" ;;
+        'refused, as it must be'*) tell_refused "$name" "${rest#refused, as it must be}" ;;
+        'NOT REFUSED'*) tell_accepted "$name" ': the crate is still proved with this edit' ;;
         *) tell_accepted "$name" ", since it shows nothing: $rest" ;;
         esac
         ;;
-    'rt: '*'NOT PROVED'* | 'rt: '*'run FAILED'* | 'rt: crates.txt:'*) printf '%s\n' "$1" ;;
+    'rt: '*'NOT PROVED'* | 'rt: '*FAILED* | 'rt: crates.txt'* | 'rt: '*': error'*) printf '%s\n' "$1" ;;
     esac
 }
 
@@ -132,7 +121,7 @@ mkfifo "$work/said" || exit 2
 status=0
 if [ "$missing" != ' ' ]; then
     set -m
-    (cd "$copy" && RT_CUT=0 exec rt must-fail "${crates[@]}") >"$work/said" 2>&1 &
+    (cd "$copy" && exec rt ci "${crates[@]}") >"$work/said" 2>&1 &
     job=$!
     set +m
     while IFS= read -r line; do tell "$line"; done <"$work/said"

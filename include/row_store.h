@@ -1,7 +1,7 @@
 /*
  * The row controller's cell store, for programs in C and C++ on x86-64: the twelve calls of docs/MANUAL.md, whose words
- * these are. Link target/staticlib/libc_store.a, which `rt staticlib c_store` proves and makes; it needs memcpy and
- * memset, and nothing else. examples/c/ has two programs, and run.sh there builds them.
+ * these are. Link target/staticlib/libc_store.a, which ./staticlib proves and makes; it needs memcpy and memset, and
+ * nothing else. examples/c/ has two programs, and run.sh there builds them.
  *
  * A store is a table and a queue, which belong together. You own both and lend them to each call; the library keeps
  * nothing between calls, so that a program may have several stores. Before a first row_fresh nothing need be true of

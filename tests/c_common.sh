@@ -1,6 +1,6 @@
 # shellcheck shell=sh
 # What the tests from C share: the archive and the compilers. A script sets `root` and reads this file, which takes the archive from the script's first
-# argument or has `rt` prove and make it, finds the compilers, and goes to a folder for the tests' files.
+# argument or has ./staticlib prove and make it, finds the compilers, and goes to a folder for the tests' files.
 name=c_store
 case ${1:-} in
 '' | /*) archive=${1:-} ;;
@@ -38,7 +38,7 @@ give_up() { # TEST
 
 if [ -z "$archive" ]; then
     archive=$root/target/staticlib/libc_store.a
-    (cd "$root" && rt staticlib c_store) >said 2>&1 || { tail -n 5 said; give_up 'rt staticlib c_store failed'; }
+    "$root/staticlib" >said 2>&1 || { tail -n 5 said; give_up './staticlib failed'; }
 fi
 [ -s "$archive" ] || give_up "no archive: $archive"
 

@@ -1,6 +1,6 @@
 #!/bin/sh
 # The store from C, against the reference: sessions, lists of stores and calls, damaged stores among them; the header's numbers; and garbage. A line for each
-# test, and at the end 'N passed, M failed'. `rt staticlib c_store` makes the archive; another can be given as an argument. cargo builds the reference. SEED=N
+# test, and at the end 'N passed, M failed'. ./staticlib makes the archive; another can be given as an argument. cargo builds the reference. SEED=N
 # tries other sessions, lists and garbage.
 root=$(cd "$(dirname "$0")/.." && pwd) || exit 2
 # shellcheck source=tests/c_common.sh

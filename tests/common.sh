@@ -1,11 +1,11 @@
 # shellcheck shell=sh
 # What the tests of the programs share. A script sets `name` to its program's and reads this file, which takes the program from the script's first
-# argument or from target/bin, and goes to a folder for the tests' files.
+# argument or from where `rt ci` and `rt run` leave it, and goes to a folder for the tests' files.
 set -u
 cd "$(dirname "$0")" || exit 2
 until [ -f crates.txt ] || [ "$PWD" = / ]; do cd ..; done
 root=$PWD
-program=${1:-$root/target/bin/$name}
+program=${1:-$root/crates/$name/out/$name}
 # shellcheck disable=SC2034 # for the scripts
 stored=$root/crates/$name
 work=$(mktemp -d) || exit 2

@@ -2,7 +2,9 @@
 """dependencies.py [ROOT]: crates.txt lists for each crate exactly the crates that its own files name, and no others.
 
 A crate names another where a source has its name at the head of a path (`use NAME::`, `NAME::`), or where a source, a definition or a proof
-imports its definitions or laws (`Rattle·NAME.`). Comments and strings do not count. Each difference is printed, and the exit status is then 1."""
+imports its definitions or laws (`Rattle.NAME.`). Comments and strings do not count, nor does a path that begins with a module of the crate's own or with
+what the file has brought in (`use std::io;`, then `io::Result`). Of the kit's libraries only those count that crates.txt lists for some crate. Each
+difference is printed, and the exit status is then 1."""
 import os
 import re
 import sys
@@ -21,8 +23,9 @@ UNNAMED = {
     'up_and_step': REPLIES,
 }
 
-SOURCE = re.compile(r'"(?:\\.|[^"\\])*"|//[^\n]*|(?<![\w:·.])([a-z_][a-z_0-9]*)::|Rattle·([a-z_][a-z_0-9]*)\.')
-LOGIC = re.compile(r'--[^\n]*|Rattle·([a-z_][a-z_0-9]*)\.')
+SOURCE = re.compile(r'"(?:\\.|[^"\\])*"|//[^\n]*|(?<![\w:.])([a-z_][a-z_0-9]*)::|\bRattle\.([a-z_][a-z_0-9]*)\b')
+LOGIC = re.compile(r'--[^\n]*|\bRattle\.([a-z_][a-z_0-9]*)\b')
+BROUGHT = re.compile(r'^\s*(?:pub(?:\(crate\))?\s+)?use\s+\w+(?:::\w+)*::(?:(\w+)|\{([^}]*)\})\s*;', re.M)
 MODULE = re.compile(r'^\s*(?:pub(?:\(crate\))?\s+)?mod\s+(\w+)\s*;', re.M)
 
 
@@ -34,7 +37,8 @@ def listed(root):
             line = line.split('#')[0].strip()
             if line:
                 name, _, rest = line.partition(':')
-                crates[name.strip()] = rest.split()
+                # Behind the name stands what it is built as, if it is no library or program of Rattle's.
+                crates[name.split()[0]] = rest.split()
     return crates
 
 
@@ -46,6 +50,12 @@ def texts(folder, ending):
                     yield file.read()
 
 
+def brought(text):
+    """The names that the file's `use` lines bring in."""
+    for one, several in BROUGHT.findall(text):
+        yield from re.findall(r'\w+', one or several)
+
+
 def named(root, crate, known):
     """The crates that the crate's own files name."""
     folder = os.path.join(root, 'crates', crate)
@@ -54,8 +64,9 @@ def named(root, crate, known):
     for text in sources:
         own.update(MODULE.findall(text))
     for text in sources:
+        here = own.union(brought(text))
         for path, logic in SOURCE.findall(text):
-            if path and path not in own:
+            if path and path not in here:
                 found.add(path)
             if logic:
                 found.add(logic)
@@ -67,7 +78,7 @@ def named(root, crate, known):
 
 def differences(root):
     crates = listed(root)
-    known = set(crates) | {'io', 'libc'}
+    known = set(crates).union(*crates.values())
     there = {name for name in os.listdir(os.path.join(root, 'crates')) if os.path.isdir(os.path.join(root, 'crates', name))}
     for name in sorted(there - set(crates)):
         yield f'{name}: no line in crates.txt'

@@ -8,6 +8,8 @@ import sys
 import tempfile
 from collections import Counter, defaultdict
 
+from dependencies import differences, listed
+
 ROOT = os.path.dirname(os.path.dirname(os.path.abspath(__file__)))
 HISTORY = "docs/CHANGES.md"
 # Names of the kit: nothing here can say whether they exist.
@@ -35,7 +37,7 @@ def folder(*parts):
 
 def files_below(*parts):
     for here, folders, names in os.walk(path(*parts)):
-        folders[:] = [one for one in folders if one not in (".git", "target")]
+        folders[:] = [one for one in folders if one not in (".git", "target", "out")]
         for name in names:
             yield os.path.relpath(os.path.join(here, name), ROOT)
 
@@ -97,7 +99,7 @@ def read_code(name, module):
 
 class Repository:
     def __init__(self):
-        self.crates = [line.split(":")[0] for line in lines_of("crates.txt") if re.match(r"\w+:", line)]
+        self.crates = list(listed(ROOT))
         self.logic, self.code, self.proved = defaultdict(Module), defaultdict(Module), set()
         for crate in self.crates:
             self.read_crate(crate)
@@ -191,11 +193,13 @@ def citations(document):
 
 # Names: `File.name` and what is like it.
 
-NAME = r"[A-Za-z][\w′-]*"
+NAME = r"[A-Za-z][\w'-]*"
 # Words of the language, of a session, of a proof's script and of tools, which name nothing of the repository.
-WORDS = set("""OK NO BAD IDLE ACCEPTED _ a b c r s s′ t1 t2 cc rw if use const static return requires ensures unfoldable omega simp search proved setl setr
-loop-again loop-holds loop-less returns returns-2 memcpy memset size_t u16 rt stdout check row_ rattle-kit-5b-plain B C U""".split())
-EXAMPLES = {"File.name", "p.b", "p.c", "Lts.antt", "reply.queue"}
+WORDS = set("""OK NO BAD IDLE ACCEPTED _ a b c l r s s' cc rw if use const static return match requires ensures unfoldable omega simp search proved setl setr
+returns in_range-requires overflow_add-i loop-i-init loop-i-preserved loop-i-smaller memcpy memset size_t u16 rt stdout check row_ B C U""".split())
+EXAMPLES = {"File.name", "p.b", "p.c", "reply.queue", "proofs/FUNCTION", "Answers.antt", "Invariants.antt", "Proof.antt"}
+# What an answer or an invariant cites: the facts of its goal by step, and the variables of its loop.
+STEP = re.compile(r"[cl](?:\.[\w-]+)+")
 # CRATE, NAME and the like stand for any.
 PLACEHOLDER = re.compile(r"(?:^|/)[A-Z]{4,}\b")
 FILE = re.compile(r"[\w./-]+\.(?:rt|c|h|sh|py|md|txt|list|inputs|outputs|sums|session|edit|rs|awk|svg)")
@@ -272,7 +276,7 @@ def names():
         lists = {}
         for cited in citations(document):
             words = cited.words
-            if words in EXAMPLES or FILE.fullmatch(words) or "must-fail/" in words or words.startswith("evidence/"):
+            if words in EXAMPLES or FILE.fullmatch(words) or STEP.fullmatch(words) or "must-fail/" in words or words.startswith("evidence/"):
                 continue
             there = is_logic_path(repository, words, crate_before(repository, cited))
             if re.fullmatch(r"\w+(?:::\w+)+(?:\([\w, ]*\))?", words):
@@ -299,6 +303,35 @@ def edits():
                 yield f"{cited}: cited without its folder"
     for edit in sorted(repository.edits - cited_edits):
         yield f"{edit}: not cited in docs/TRACE.md"
+
+
+def why_unfit(edit, crate):
+    """Why `rt` could not apply the edit: it calls such an edit bad, and passes. As `rt` reads it, each old text stands once in what the earlier pairs left."""
+    name, old, texts, pairs = "", None, {}, 0
+    for line in text_of(edit).split("\n"):
+        if line.startswith("file: "):
+            name = f"crates/{crate}/{line[6:].strip()}"
+        elif line.startswith("old: "):
+            old = line[5:]
+        elif line.startswith("new:"):
+            if not name or not old:
+                return "a new text without its file or its old text"
+            if not os.path.isfile(path(name)):
+                return f"there is no {name}"
+            text = texts.setdefault(name, text_of(name))
+            if text.count(old) != 1:
+                return f"{text.count(old)} times in {name}: {old}"
+            texts[name] = text.replace(old, line[4:].removeprefix(" "))
+            old, pairs = None, pairs + 1
+    return None if pairs else "no pair of an old and a new text"
+
+
+def fits():
+    for edit in sorted(Repository().edits):
+        name = (f"crates/{edit}" if "/must-fail/" in edit else edit) + ".edit"
+        why = why_unfit(name, name.split("/")[1])
+        if why:
+            yield f"{name}: {why}"
 
 
 # Counts.
@@ -391,16 +424,15 @@ def count_roster():
 
 
 def count_rest():
-    crates = [line for line in lines_of("crates.txt") if re.match(r"\w+:", line)]
     cases = text_of("crates/notation/specs/Cases.antt")
     inside, outside = (len(re.findall(r'"(?:[^"\\]|\\.)*"', re.search(rf"^{name} =\n(.*?)\[\]$", cases, re.M | re.S).group(1)))
                        for name in ("inside", "outsiders"))
     functions = len(re.findall(r"^pub fn ", text_of("crates/store/src/lib.rt"), re.M))
-    exported = len(re.findall(r'extern "C" fn row_', text_of("crates/c_store/src/lib.rt")))
+    exported = len(re.findall(r'extern "C" fn row_', text_of("crates/c_store_c/src/lib.rt")))
     worked = len(re.findall(r'^ *"fresh ', text_of("reference/tests/figure_8.rs"), re.M))
-    yield "README.md", r"`crates.txt` has the (\S+) crates", [len(crates)]
+    yield "README.md", r"`crates.txt` has the (\S+) crates", [len(listed(ROOT))]
     yield "README.md", r"\| `store` \| the public face: (\w+) calls", [functions - 2]
-    yield "README.md", r"\| `c_store` \| the (\w+) calls for programs in C", [exported]
+    yield "README.md", r"\| `c_store_c` \| the (\w+) calls of `c_store` under their names in C", [exported]
     yield "docs/TRACE.md", r"`notation`, `Cases`: (\S+) texts with their trees, (\S+) outside", [inside, outside]
     yield "docs/TRACE.md", r"figure_8.rs` has (\S+) cases worked by hand", [worked]
 
@@ -472,7 +504,8 @@ def links():
     for document in documents():
         for cited in citations(document):
             words = cited.words.split(" ")[0].rstrip("/")
-            if PLACEHOLDER.search(words):
+            # What `rt` makes in a folder out/ is not in the repository.
+            if PLACEHOLDER.search(words) or "/out/" in words:
                 continue
             if words.split("/")[0] in crates:
                 words = "crates/" + re.sub(r"\.[^/]*$", "", words)
@@ -515,11 +548,10 @@ def tables():
 
 
 def dependencies():
-    from dependencies import differences
     return differences(ROOT)
 
 
-TESTS = {test.__name__: test for test in (names, edits, counts, pictures, links, tables, dependencies)}
+TESTS = {test.__name__: test for test in (names, edits, fits, counts, pictures, links, tables, dependencies)}
 
 if __name__ == "__main__":
     for offence in TESTS[sys.argv[1]]():

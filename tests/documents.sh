@@ -19,6 +19,7 @@ try() { # TEST WHAT
 }
 try names 'every name of a definition, function or file that is cited is there'
 try edits 'every must-fail edit that is cited is there, and each is cited in docs/TRACE.md'
+try fits 'every must-fail edit can be applied: each old text stands once in its file'
 try counts 'the numbers in docs/TRACE.md, docs/ASSUMPTIONS.md and README.md are those counted'
 try pictures 'the pictures are those that docs/architecture.py draws, with every crate'
 try links 'every link, anchor and path leads somewhere'

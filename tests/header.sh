@@ -30,17 +30,17 @@ sed -n 's/^    \(∷ \)\{0,1\}case (*\([a-z]*\).* \([0-9]*\) [0-9]* [0-9]*$/\2 \
 same 'the tags'
 
 members row_refusal ROW_ >out
-sed -n 's/^refusalNumber \([A-Za-z]*\) = \([0-9]*\)$/\1 \2/p' "$answers" | in_capitals >defined
+sed -n 's/^refusal_number \([A-Za-z]*\) = \([0-9]*\)$/\1 \2/p' "$answers" | in_capitals >defined
 same 'the refusals'
 
 members row_rule ROW_RULE_ >out
-sed -n 's/^ruleNumber Rule\.\([A-Za-z]*\) = \([0-9]*\)$/\1 \2/p' "$answers" | in_capitals >defined
+sed -n 's/^rule_number Rule\.\([A-Za-z]*\) = \([0-9]*\)$/\1 \2/p' "$answers" | in_capitals >defined
 same 'the rules'
 
 # A kind by the call of its packet: the two reads have one, and a replace is one of left or right.
 members row_kind ROW_KIND_ | sort >out
-sed -n 's/^packetOf t (\([A-Za-z]*\) .*) = packet \([0-9]*\) .*/\1 \2/p' "$root/crates/machine/specs/Calls.antt" |
-    sed 's/^c[ad]r /read /; s/^set/replace/' | in_capitals | sort -u >defined
+sed -n 's/^packet_of t (\([a-z_]*\) .*) = packet \([0-9]*\) .*/\1 \2/p' "$root/crates/machine/specs/Calls.antt" |
+    sed 's/^c[ad]r /read /; s/^set_/replace_/' | in_capitals | sort -u >defined
 same 'the kinds'
 
 # A number by its name in the header, and by its name in a module of specs.
@@ -55,18 +55,18 @@ while read -r constant crate module definition; do
     defined_number "$constant" "$crate" "$module" "$definition" >defined
     same "$constant"
 done <<END
-ROW_FIRST_ATOM machine Words firstAtom
+ROW_FIRST_ATOM machine Words first_atom
 ROW_CLIP machine Words clip
 ROW_CEILING machine Words ceiling
-ROW_MOST_CELLS machine Words mostCells
+ROW_MOST_CELLS machine Words most_cells
 ROW_SLOTS machine Queue slots
-ROW_MOST_TEXT notation Grammar mostText
-ROW_MOST_OPEN notation Brackets mostOpen
+ROW_MOST_TEXT notation Grammar most_text
+ROW_MOST_OPEN notation Brackets most_open
 END
 
-# Nil is the word that isNil asks for.
+# Nil is the word that is_nil asks for.
 number ROW_NIL >out
-sed -n 's/^isNil w = eqb w \([0-9]*\)$/ROW_NIL \1/p' "$root/crates/machine/specs/Words.antt" >defined
+sed -n 's/^is_nil w = eqb w \([0-9]*\)$/ROW_NIL \1/p; s/^is_nil w = w == \([0-9]*\)$/ROW_NIL \1/p' "$root/crates/machine/specs/Words.antt" >defined
 same ROW_NIL
 
 # The two formulas, with the definition's numbers in the place of its names.
@@ -79,18 +79,18 @@ number_of() { # DEFINITION
 before=$(number_of header)
 each=$(number_of stride)
 formula ROW_TABLE_WORDS >out
-sed -n "s/^tableLength c = header + stride \* c$/($before + $each * (size_t)(c))/p" "$table" >defined
+sed -n "s/^table_length c = header + stride \* c$/($before + $each * (size_t)(c))/p" "$table" >defined
 same 'the words of a table'
 
 formula ROW_SCRATCH_WORDS >out
-sed -n 's/^scratchWords c = c$/((size_t)(c))/p' "$table" >defined
+sed -n 's/^scratch_words c = c$/((size_t)(c))/p' "$table" >defined
 same 'the words of the scratch'
 
 # Where a cell begins, and its words in their order, in the comment on the table, whose stars are left out.
 tr -s '* \n' ' ' <"$header" | grep -o 'words for each cell: [a-z, ]*\. Cell x begins at word [^.]*\.' >out
-for definition in left right rootCount cellCount state nameCount; do
+for definition in left right root_count cell_count state name_count; do
     echo "$(number_of "$definition") $definition"
-done | sort -n | sed 's/^[0-9]* //; s/[A-Z]/ &/' | tr '[:upper:]' '[:lower:]' | paste -s -d , - |
+done | sort -n | awk '$1 == NR - 1 { print $2 }' | tr _ ' ' | paste -s -d , - |
     sed "s/,/, /g; s/.*/words for each cell: &. Cell x begins at word $before + $each (x - 1)./" >defined
 same 'the words of a cell'
 
@@ -100,9 +100,9 @@ struct() { # STRUCT
 }
 slots=$(number ROW_SLOTS)
 struct row_queue | awk -v slots="${slots#* }" '{ words = NF == 3 ? slots : 1; print $2, at + 0, words; at += words } END { print "words", at }' >out
-sed -n 's/^  pub \([a-z]*\) : queueIn places \.\1 ≡ from \([0-9]*\) \([0-9]*\)$/\1 \2 \3/p
-    s/^  pub \([a-z]*\) : queueIn places \.\1 ≡ \([0-9]*\)$/\1 \2 1/p' "$cases" >defined
-sed -n 's/^  pub words : queueWords ≡ \([0-9]*\)$/words \1/p' "$cases" >>defined
+sed -n 's/^  pub \([a-z]*\) : (queue_in places)\.\1 ≡ from \([0-9]*\) \([0-9]*\)$/\1 \2 \3/p
+    s/^  pub \([a-z]*\) : (queue_in places)\.\1 ≡ \([0-9]*\)$/\1 \2 1/p' "$cases" >defined
+sed -n 's/^  pub words : queue_words ≡ \([0-9]*\)$/words \1/p' "$cases" >>defined
 same "the queue's words"
 
 struct row_reply | sed 's/^uint16_t/u16/; s/^size_t/usize/' >out
@@ -114,8 +114,8 @@ asserted() { # STRUCT
     sed -n "s/^ROW_LAYOUT(offsetof(struct $1, \([a-z]*\)) == \([0-9]*\));$/\1 \2/p; s/^ROW_LAYOUT(sizeof(struct $1) == \([0-9]*\));$/size \1/p" "$header"
 }
 asserted row_queue >out
-sed -n 's/^  pub words : queueWords ≡ \([0-9]*\)$/\1/p' "$cases" | awk '{ print "size", 2 * $1 }' >defined
-sed -n 's/^  pub \([a-z]*\) : queueIn places \.\1 ≡ \(from \)\{0,1\}\([0-9]*\).*$/\1 \3/p' "$cases" | awk '{ print $1, 2 * $2 }' >>defined
+sed -n 's/^  pub words : queue_words ≡ \([0-9]*\)$/\1/p' "$cases" | awk '{ print "size", 2 * $1 }' >defined
+sed -n 's/^  pub \([a-z]*\) : (queue_in places)\.\1 ≡ \(from \)\{0,1\}\([0-9]*\).*$/\1 \3/p' "$cases" | awk '{ print $1, 2 * $2 }' >>defined
 same "the bytes of the queue"
 
 asserted row_reply >out
@@ -126,7 +126,7 @@ same "the bytes of the reply"
 
 # The operands of each call by place, name and type: the header's, and those of the functions that C calls, as C writes them.
 tr -s ' \n' ' ' <"$header" | grep -o 'struct row_reply row_[a-z_]*([^)]*)' | sed 's/^struct row_reply //' >out
-tr -s ' \n' ' ' <"$root/crates/c_store/src/lib.rt" | grep -o 'pub extern "C" fn row_[a-z_]*([^)]*) -> Reply' | sed '
+tr -s ' \n' ' ' <"$root/crates/c_store_c/src/lib.rt" | grep -o 'pub extern "C" fn row_[a-z_]*([^)]*) -> Reply' | sed '
     s/^pub extern "C" fn //; s/ -> Reply$//; s/( /(/; s/,\{0,1\} )/)/
     s/\([a-z]*\): u16/uint16_t \1/g
     s/\([a-z]*\): &mut \[u16; QUEUE_WORDS\]/struct row_queue *\1/; s/\([a-z]*\): &\[u16; QUEUE_WORDS\]/const struct row_queue *\1/

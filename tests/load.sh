@@ -1,11 +1,11 @@
 #!/bin/sh
 # What `rt` cannot try of the load program, which it runs on one input, a regular file: all inputs of the reference, input that comes in short reads or
 # is long, the memory that is used, reads and writes that fail, a write that is short, and the session program on the same calls. A line for each test, and
-# at the end 'N passed, M failed'. `rt check load` and `rt check session` build the programs; others can be given: tests/load.sh [LOAD [SESSION]].
+# at the end 'N passed, M failed'. `rt ci` builds the programs, and so does `rt run` in their crates; others can be given: tests/load.sh [LOAD [SESSION]].
 name=load
 # shellcheck source=tests/common.sh
 . "$(dirname "$0")/common.sh"
-session=${2:-$root/target/bin/session}
+session=${2:-$root/crates/session/out/session}
 cases=$root/reference/cases
 echo BAD >bad
 

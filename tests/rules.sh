@@ -1,7 +1,7 @@
 #!/bin/sh
 # What `rt` cannot try of the rules program, whose standard input is a regular file there: input that comes in short reads or stays open, reads and writes
-# that fail, and a write that is short. A line for each test, and at the end 'N passed, M failed'. `rt check rules` builds the program; another can be given as
-# an argument.
+# that fail, and a write that is short. A line for each test, and at the end 'N passed, M failed'. `rt ci` builds the program, and so does `rt run` in its
+# crate; another can be given as an argument.
 name=rules
 # shellcheck source=tests/common.sh
 . "$(dirname "$0")/common.sh"

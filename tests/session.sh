@@ -1,7 +1,7 @@
 #!/bin/sh
 # What `rt` does not try of the session program, whose standard input is one regular file there: input that comes in short reads or stays open, reads and
-# writes that fail, a write that is short, and a further session. A line for each test, and at the end 'N passed, M failed'. `rt check session` builds the
-# program; another can be given as an argument.
+# writes that fail, a write that is short, and a further session. A line for each test, and at the end 'N passed, M failed'. `rt ci` builds the program, and
+# so does `rt run` in its crate; another can be given as an argument.
 name=session
 # shellcheck source=tests/common.sh
 . "$(dirname "$0")/common.sh"

@@ -1,6 +1,6 @@
 #!/bin/sh
 # Makes the archive for C, shows what it has and needs, builds the examples over it and runs them, with each compiler that is here and with its sanitizers.
-# A line for each test, and at the end 'N passed, M failed'. `rt staticlib c_store` makes the archive; another can be given as an argument.
+# A line for each test, and at the end 'N passed, M failed'. ./staticlib makes the archive; another can be given as an argument.
 root=$(cd "$(dirname "$0")/../.." && pwd) || exit 2
 # shellcheck source=tests/c_common.sh
 . "$root/tests/c_common.sh"

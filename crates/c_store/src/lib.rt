@@ -1,5 +1,5 @@
-// The store's calls for programs in C, whose header is include/row_store.h. Each has the store's one promise, on the same table, queue and scratch, for any
-// words, numbers and buffers. A slice crosses as a pointer and a length, the queue as a pointer to its 258 words.
+// The store's calls for programs in C, whose header is include/row_store.h; c_store_c exports them. Each has the store's one promise, on the same table,
+// queue and scratch, for any words, numbers and buffers. A slice crosses as a pointer and a length, the queue as a pointer to its 258 words.
 #![tactic(auto)]
 
 ghost use Rattle.std.specs.Prelude.{[]};
@@ -25,8 +25,7 @@ fn called(table: &mut [u16], queue: &mut [u16; QUEUE_WORDS], call: RowCall) -> R
     row_told(answer)
 }
 
-#[unsafe(no_mangle)]
-pub extern "C" fn row_fresh(table: &mut [u16], queue: &mut [u16; QUEUE_WORDS], c: u16) -> Reply
+pub fn row_fresh(table: &mut [u16], queue: &mut [u16; QUEUE_WORDS], c: u16) -> Reply
     ensures { PromiseTold (store table.old (queue_in queue.old) []) (fresh c) result (store table.new (queue_in queue.new) []) }
 {
     let words = *queue;
@@ -38,81 +37,49 @@ pub extern "C" fn row_fresh(table: &mut [u16], queue: &mut [u16; QUEUE_WORDS], c
     fresh_told(answer)
 }
 
-#[unsafe(no_mangle)]
-pub extern "C" fn row_car(table: &mut [u16], queue: &mut [u16; QUEUE_WORDS], x: u16) -> Reply
+pub fn row_car(table: &mut [u16], queue: &mut [u16; QUEUE_WORDS], x: u16) -> Reply
     ensures { PromiseTold (store table.old (queue_in queue.old) []) (row (car x)) result (store table.new (queue_in queue.new) []) }
 {
     called(table, queue, RowCall::Car(x))
 }
 
-#[unsafe(no_mangle)]
-pub extern "C" fn row_cdr(table: &mut [u16], queue: &mut [u16; QUEUE_WORDS], x: u16) -> Reply
+pub fn row_cdr(table: &mut [u16], queue: &mut [u16; QUEUE_WORDS], x: u16) -> Reply
     ensures { PromiseTold (store table.old (queue_in queue.old) []) (row (cdr x)) result (store table.new (queue_in queue.new) []) }
 {
     called(table, queue, RowCall::Cdr(x))
 }
 
-#[unsafe(no_mangle)]
-pub extern "C" fn row_cons(
-    table: &mut [u16],
-    queue: &mut [u16; QUEUE_WORDS],
-    x: u16,
-    y: u16,
-) -> Reply
+pub fn row_cons(table: &mut [u16], queue: &mut [u16; QUEUE_WORDS], x: u16, y: u16) -> Reply
     ensures { PromiseTold (store table.old (queue_in queue.old) []) (row (cons x y)) result (store table.new (queue_in queue.new) []) }
 {
     called(table, queue, RowCall::Cons(x, y))
 }
 
-#[unsafe(no_mangle)]
-pub extern "C" fn row_set_left(
-    table: &mut [u16],
-    queue: &mut [u16; QUEUE_WORDS],
-    x: u16,
-    y: u16,
-) -> Reply
+pub fn row_set_left(table: &mut [u16], queue: &mut [u16; QUEUE_WORDS], x: u16, y: u16) -> Reply
     ensures { PromiseTold (store table.old (queue_in queue.old) []) (row (set_left x y)) result (store table.new (queue_in queue.new) []) }
 {
     called(table, queue, RowCall::SetLeft(x, y))
 }
 
-#[unsafe(no_mangle)]
-pub extern "C" fn row_set_right(
-    table: &mut [u16],
-    queue: &mut [u16; QUEUE_WORDS],
-    x: u16,
-    y: u16,
-) -> Reply
+pub fn row_set_right(table: &mut [u16], queue: &mut [u16; QUEUE_WORDS], x: u16, y: u16) -> Reply
     ensures { PromiseTold (store table.old (queue_in queue.old) []) (row (set_right x y)) result (store table.new (queue_in queue.new) []) }
 {
     called(table, queue, RowCall::SetRight(x, y))
 }
 
-#[unsafe(no_mangle)]
-pub extern "C" fn row_up(table: &mut [u16], queue: &mut [u16; QUEUE_WORDS], x: u16, n: u16) -> Reply
+pub fn row_up(table: &mut [u16], queue: &mut [u16; QUEUE_WORDS], x: u16, n: u16) -> Reply
     ensures { PromiseTold (store table.old (queue_in queue.old) []) (row (up x n)) result (store table.new (queue_in queue.new) []) }
 {
     called(table, queue, RowCall::Up(x, n))
 }
 
-#[unsafe(no_mangle)]
-pub extern "C" fn row_down(
-    table: &mut [u16],
-    queue: &mut [u16; QUEUE_WORDS],
-    x: u16,
-    n: u16,
-) -> Reply
+pub fn row_down(table: &mut [u16], queue: &mut [u16; QUEUE_WORDS], x: u16, n: u16) -> Reply
     ensures { PromiseTold (store table.old (queue_in queue.old) []) (row (down x n)) result (store table.new (queue_in queue.new) []) }
 {
     called(table, queue, RowCall::Down(x, n))
 }
 
-#[unsafe(no_mangle)]
-pub extern "C" fn row_step(
-    table: &mut [u16],
-    queue: &mut [u16; QUEUE_WORDS],
-    scratch: &mut [u16],
-) -> Reply
+pub fn row_step(table: &mut [u16], queue: &mut [u16; QUEUE_WORDS], scratch: &mut [u16]) -> Reply
     ensures { PromiseTold (store table.old (queue_in queue.old) scratch.old) step result (store table.new (queue_in queue.new) scratch.new) }
 {
     let words = *queue;
@@ -125,20 +92,14 @@ pub extern "C" fn row_step(
 }
 
 // Table and queue are lent for reading: neither can change.
-#[unsafe(no_mangle)]
-pub extern "C" fn row_audit(table: &[u16], queue: &[u16; QUEUE_WORDS], scratch: &mut [u16]) -> Reply
+pub fn row_audit(table: &[u16], queue: &[u16; QUEUE_WORDS], scratch: &mut [u16]) -> Reply
     ensures { PromiseTold (store table.now (queue_in queue.now) scratch.old) audit result (store table.now (queue_in queue.now) scratch.new) }
 {
     let words = *queue;
     audit_told(store::audit(table, load(words), scratch))
 }
 
-#[unsafe(no_mangle)]
-pub extern "C" fn row_read_text(
-    table: &mut [u16],
-    queue: &mut [u16; QUEUE_WORDS],
-    text: &[u8],
-) -> Reply
+pub fn row_read_text(table: &mut [u16], queue: &mut [u16; QUEUE_WORDS], text: &[u8]) -> Reply
     ensures { PromiseTold (store table.old (queue_in queue.old) []) (read text.now) result (store table.new (queue_in queue.new) []) }
 {
     let words = *queue;
@@ -150,8 +111,7 @@ pub extern "C" fn row_read_text(
     row_told(answer)
 }
 
-#[unsafe(no_mangle)]
-pub extern "C" fn row_write_text(
+pub fn row_write_text(
     table: &[u16],
     queue: &[u16; QUEUE_WORDS],
     word: u16,
