@@ -1,19 +1,15 @@
 -- A text that was measured, put into the front of a buffer.
 use mathlib.Core.Path.{◌≡◌, refl, sym, ap, ◌∙◌}
-use mathlib.Core.Bool.{Bool, true, false, cond}
 use mathlib.Core.List.{List, ◌++◌}
 use Prim.Native.Nat.{ℕ, suc, ◌≤◌}
 use native.Mathlib.Omega.{arith}
-use lib.Dec.{eqb}
 use lib.ListN.{length, take, drop}
 use lib.Seq.{length-take-le}
-use borrow.Author.Tests.{eqb-true}
 use Rattle.notation.specs.Print.{print}
 use Rattle.notation.specs.Brackets.{Met, nothing, too_many, no_room, first_met}
 use Rattle.notation.proofs.BracketLaws.{met_none, met_enough}
 use Rattle.machine.specs.Texts.{opened, text_for}
 use Rattle.machine.proofs.TextLaws.{opened_enough}
-use Rattle.printer.specs.declared.Measured
 use Rattle.printer.specs.declared.Measured.{Measured}
 use Rattle.printer.specs.Measures.{measured_by, measured, Exact, PutText}
 

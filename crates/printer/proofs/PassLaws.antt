@@ -12,7 +12,6 @@ use Rattle.base_ten.specs.Put.{Put}
 use Rattle.notation.specs.Brackets.{most_open}
 use Rattle.notation.proofs.BracketLaws.{many_met, no_room_met}
 use Rattle.machine.specs.Texts.{text_for}
-use Rattle.printer.specs.declared.Measured
 use Rattle.printer.specs.declared.Measured.{Measured}
 use Rattle.printer.specs.declared.walk.Piece.{Piece}
 use Rattle.printer.specs.declared.walk.Walk.{Walk}

@@ -2,7 +2,7 @@
 use mathlib.Core.Path.{◌≡◌, refl, ap}
 use mathlib.Core.Bool.{Bool, true, false, cond}
 use mathlib.Core.List.{List, [], ◌∷◌, ◌++◌}
-use Prim.Native.Nat.{ℕ, zero, suc, ◌+◌, ◌-◌, ◌/◌, ◌%◌, ◌^◌, ◌≤◌, ◌<◌}
+use Prim.Native.Nat.{ℕ, zero, suc, ◌+◌, ◌/◌, ◌%◌, ◌^◌, ◌≤◌, ◌<◌}
 use native.Mathlib.Nat.{pow-suc}
 use native.Mathlib.Omega.{arith}
 use lib.Dec.{ltb}
@@ -12,7 +12,6 @@ use Rattle.base_ten.specs.Bytes.{digit_zero}
 use Rattle.base_ten.specs.Decimal.{digits, most_digits, decimal}
 use Rattle.base_ten.proofs.PutLaws.{digits_some}
 use Rattle.notation.specs.Grammar.{close_byte}
-use Rattle.printer.specs.declared.walk.Piece
 use Rattle.printer.specs.declared.walk.Piece.{Piece}
 use Rattle.printer.specs.Pieces.{bytes_of}
 

@@ -20,9 +20,7 @@ use Rattle.machine.specs.Words.{is_cell, is_atom, first_atom, largest_word}
 use Rattle.machine.specs.Table.{left, right, capacity, word_at}
 use Rattle.machine.specs.Calls.{field}
 use Rattle.machine.specs.Texts.{leaf}
-use Rattle.printer.specs.declared.walk.Kind
 use Rattle.printer.specs.declared.walk.Kind.{Kind}
-use Rattle.printer.specs.declared.walk.Piece
 use Rattle.printer.specs.declared.walk.Piece.{Piece}
 use Rattle.printer.specs.declared.walk.Walk.{Walk}
 use Rattle.printer.specs.Pieces.{bytes_of}

@@ -2,7 +2,6 @@
 use Rattle.std.specs.Prelude.{◌≡◌, List, ◌++◌, ℕ, length, drop}
 use Rattle.notation.specs.Brackets.{Met, nothing, too_many, no_room, first_met}
 use Rattle.machine.specs.Texts.{text_for}
-use Rattle.printer.specs.declared.Measured
 use Rattle.printer.specs.declared.Measured.{Measured}
 
 -- by what is met first

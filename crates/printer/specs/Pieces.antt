@@ -3,7 +3,6 @@ use Rattle.std.specs.Prelude.{List, [], ◌∷◌, ◌++◌, ℕ}
 use Rattle.base_ten.specs.Bytes.{space}
 use Rattle.base_ten.specs.Decimal.{decimal}
 use Rattle.notation.specs.Grammar.{open_byte, close_byte, dot_byte}
-use Rattle.printer.specs.declared.walk.Piece
 use Rattle.printer.specs.declared.walk.Piece.{Piece}
 
 unfoldable pub bytes_of : Piece → List ℕ

@@ -7,11 +7,9 @@ use Rattle.machine.specs.Words.{is_cell, is_atom, first_atom}
 use Rattle.machine.specs.Table.{left, right, capacity}
 use Rattle.machine.specs.Calls.{field}
 use Rattle.machine.specs.Texts.{opened, text_for}
-use Rattle.printer.specs.declared.walk.Kind
 use Rattle.printer.specs.declared.walk.Kind.{Kind}
 use Rattle.printer.specs.declared.walk.Piece.{Piece}
 use Rattle.printer.specs.declared.walk.Walk.{Walk}
-use Rattle.printer.specs.declared.walk.Step
 use Rattle.printer.specs.declared.walk.Step.{Step}
 use Rattle.printer.specs.Pieces.{bytes_of}
 

@@ -1,14 +1,12 @@
 -- An input of more than 80 bytes is no workload: three numbers of that length together would be too large. So its first 81 bytes tell the workload.
 use Rattle.std.proofs.Common.{◌≡◌, ℕ, suc, ◌+◌, ◌-◌, ◌*◌, ◌^◌, ◌<◌, ◌≤◌, Bool, true, false, cond, ◌&&◌, eqb, ltb, leb, List, [], ◌∷◌, length, take, sym, refl, ap, ◌∙◌, zero-le, arith, length-take-le, take_all, ltb-false, ltb-true, leb-false, leb-true}
 use borrow.Author.Tests.{eqb-false}
-use Rattle.base_ten.specs.declared.Number
 use Rattle.base_ten.specs.declared.Number.{Number}
 use Rattle.base_ten.specs.Bytes.{digit_zero, digit_nine, line_feed, space, on_first, split, lines_of, words_of}
 use Rattle.base_ten.specs.Numbers.{number_from, zero_alone, number_of}
 use Rattle.base_ten.proofs.NumberLaws.{grown, grown_larger, grown_longer, number_high}
 use Rattle.line_text.specs.Requests.{most_bytes}
 use Rattle.line_text.specs.Kept.{kept_bytes}
-use Rattle.traffic.specs.declared.Workload
 use Rattle.traffic.specs.declared.Workload.{Workload}
 use Rattle.traffic.specs.Workload.{most_seed, most_count, if_all, by_words, by_lines, workload_of}
 

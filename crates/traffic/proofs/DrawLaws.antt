@@ -1,10 +1,8 @@
 -- What the code's moves and tests tell of the call drawn.
-use Rattle.std.proofs.Common.{◌≡◌, ℕ, ◌+◌, ◌*◌, ◌/◌, ◌%◌, ◌^◌, ◌<◌, ◌≤◌, sym, refl, ap, ◌∙◌, zero-le, mod-lt, mul-le-mul, arith, eq-eqb, ne_eqb}
+use Rattle.std.proofs.Common.{◌≡◌, ℕ, ◌+◌, ◌*◌, ◌/◌, ◌%◌, ◌^◌, ◌<◌, ◌≤◌, sym, ap, ◌∙◌, zero-le, mod-lt, mul-le-mul, arith, eq-eqb, ne_eqb}
 use native.Mathlib.Nat.{mod-add-mod}
-use Rattle.machine.specs.declared.RowCall
 use Rattle.machine.specs.declared.RowCall.{RowCall}
 use Rattle.machine.specs.Words.{first_atom}
-use Rattle.line_text.specs.declared.Request
 use Rattle.line_text.specs.declared.Request.{Request}
 use Rattle.traffic.specs.declared.Drawn.{Drawn}
 use Rattle.traffic.specs.Traffic.{moved, draw, operand_drawn, number_drawn, drawn, call_drawn}

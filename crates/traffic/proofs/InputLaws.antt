@@ -1,7 +1,6 @@
 -- What the parser's tests tell of the workload, and why an input's first bytes are enough.
-use Rattle.std.proofs.Common.{◌≡◌, ℕ, zero, suc, ◌+◌, ◌-◌, ◌*◌, ◌^◌, ◌<◌, ◌≤◌, Bool, true, false, cond, eqb, leb, List, [], ◌∷◌, ◌++◌, length, take, drop, sym, refl, ap, ◌∙◌, zero-le, add-one, arith, length-drop, drop_of_length-le, take_all, eqb-true}
+use Rattle.std.proofs.Common.{◌≡◌, ℕ, suc, ◌+◌, ◌-◌, ◌<◌, ◌≤◌, Bool, true, false, cond, eqb, List, [], ◌∷◌, length, take, drop, sym, refl, ap, ◌∙◌, arith, length-drop, drop_of_length-le, take_all, eqb-true}
 use borrow.Author.Tests.{eqb-false}
-use Rattle.base_ten.specs.declared.Number
 use Rattle.base_ten.specs.declared.Number.{Number}
 use Rattle.base_ten.specs.Bytes.{line_feed, space, before, on_first, split, lines_of, words_of}
 use Rattle.base_ten.specs.Lines.{last_line, onto}
@@ -10,7 +9,6 @@ use Rattle.base_ten.proofs.WordLaws.{append_none, split_at}
 use Rattle.base_ten.proofs.LineLaws.{onto_none, lines_joined}
 use Rattle.base_ten.proofs.KeepLaws.{last_part}
 use Rattle.line_text.proofs.RequestLaws.{words_one, words_more, some_word}
-use Rattle.traffic.specs.declared.Workload
 use Rattle.traffic.specs.declared.Workload.{Workload}
 use Rattle.traffic.specs.Workload.{most_seed, most_count, if_all, by_words, by_lines, workload_of}
 

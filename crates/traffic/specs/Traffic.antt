@@ -1,9 +1,7 @@
 -- The rule of the traffic (document 02, A2): moves, draws, and the calls that a seed gives.
 use Rattle.std.specs.Prelude.{ℕ, zero, suc, ◌+◌, ◌*◌, ◌/◌, ◌%◌, ◌^◌, cond, List, [], ◌∷◌, ◌==◌}
-use Rattle.machine.specs.declared.RowCall
 use Rattle.machine.specs.declared.RowCall.{RowCall}
 use Rattle.machine.specs.Words.{first_atom}
-use Rattle.line_text.specs.declared.Request
 use Rattle.line_text.specs.declared.Request.{Request}
 use Rattle.traffic.specs.declared.Drawn.{Drawn}
 

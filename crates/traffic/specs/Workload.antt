@@ -1,11 +1,9 @@
 -- The input of the load program (document 02, A2): "one line with a seed (32 bits), C and a number of calls (each 0 to 65,535), in base ten without
 -- leading zeros and with one space between"; "the input's line feed may lack".
 use Rattle.std.specs.Prelude.{ℕ, List, [], ◌∷◌}
-use Rattle.base_ten.specs.declared.Number
 use Rattle.base_ten.specs.declared.Number.{Number}
 use Rattle.base_ten.specs.Bytes.{lines_of, words_of}
 use Rattle.base_ten.specs.Numbers.{number_of}
-use Rattle.traffic.specs.declared.Workload
 use Rattle.traffic.specs.declared.Workload.{Workload}
 
 -- the largest seed

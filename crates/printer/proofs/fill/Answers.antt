@@ -1,9 +1,6 @@
-use borrow.Author.Rules.{rules}
 use mathlib.Core.Path.{refl, sym, ◌∙◌}
-use Prim.Native.Nat.{◌-◌}
 use native.Mathlib.Omega.{arith}
 use lib.ListN.{length}
-use Rattle.printer.specs.Walk.{Filling}
 use Rattle.printer.proofs.PassLaws.{filling_none, filled_all, never_deep, filling_room, filling_more}
 use Rattle.printer.proofs.PieceLaws.{piece_some}
 use Rattle.printer.proofs.fill.Goals as goal

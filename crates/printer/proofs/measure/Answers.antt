@@ -1,7 +1,5 @@
-use borrow.Author.Rules.{rules}
 use mathlib.Core.Path.{refl, sym}
 use native.Mathlib.Omega.{arith}
-use Rattle.printer.specs.Walk.{Measuring}
 use Rattle.printer.proofs.PassLaws.{measuring_none, measured_all, measured_deep, measured_without, measuring_more}
 use Rattle.printer.proofs.measure.Goals as goal
 

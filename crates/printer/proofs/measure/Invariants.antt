@@ -1,8 +1,4 @@
-use borrow.Author.Rules.{rules}
-use mathlib.Core.Path.{refl, sym}
-use native.Mathlib.Omega.{arith}
 use Rattle.printer.specs.Walk.{Measuring}
-use Rattle.printer.proofs.PassLaws.{measuring_none, measured_all, measured_deep, measured_without, measuring_more}
 use Rattle.printer.proofs.measure.Given as goal
 
 abbrev pub invariant-loop-piece : goal.invariant-loop-piece

@@ -1,4 +1,3 @@
-use borrow.Author.Rules.{rules}
 use mathlib.Core.Path.{refl, sym, ◌∙◌}
 use Rattle.printer.proofs.FrontLaws.{part_within, part_size, part_exact, part_filled}
 use Rattle.printer.proofs.put_text.Goals as goal
@@ -6,26 +5,22 @@ use Rattle.printer.proofs.put_text.Goals as goal
 pub slice_bounds-fill-end : goal.slice_bounds-fill-end
 slice_bounds-fill-end c =
     let i = c.args in
-    let n = c.decreases.given.0.0 in
-    part_within i.table.now i.word i.buffer.now n (sym c.decreases.given.1 ∙ c.measure-measured.ensures)
+    part_within i.table.now i.word i.buffer.now c.in-Bytes.n (sym c.in-Bytes.is ∙ c.measure-measured.ensures)
 
 pub slice_bounds-fill-end-in-Bytes : goal.slice_bounds-fill-end-in-Bytes
 slice_bounds-fill-end-in-Bytes c =
     let i = c.args in
-    let n = c.decreases.given.0.0 in
-    sym (part_size i.table.now i.word i.buffer.now n (sym c.decreases.given.1 ∙ c.measure-measured.ensures))
+    sym (part_size i.table.now i.word i.buffer.now c.in-Bytes.n (sym c.in-Bytes.is ∙ c.measure-measured.ensures))
 
 pub fill-requires : goal.fill-requires
 fill-requires c =
     let i = c.args in
-    let n = c.decreases.given.0.0 in
-    (c.requires, part_exact i.table.now i.word i.buffer.now n (sym c.decreases.given.1 ∙ c.measure-measured.ensures))
+    (c.requires, part_exact i.table.now i.word i.buffer.now c.in-Bytes.n (sym c.in-Bytes.is ∙ c.measure-measured.ensures))
 
 pub returns-in-Bytes : goal.returns-in-Bytes
 returns-in-Bytes c =
     let i = c.args in
-    let n = c.decreases.given.0.0 in
-    part_filled i.table.now i.word i.buffer.now n (sym c.decreases.given.1 ∙ c.measure-measured.ensures) _ c.fill.ensures
+    part_filled i.table.now i.word i.buffer.now c.in-Bytes.n (sym c.in-Bytes.is ∙ c.measure-measured.ensures) _ c.fill.ensures
 
 pub returns-in-TooDeep : goal.returns-in-TooDeep
 returns-in-TooDeep c = record { exact = sym c.in-TooDeep.is ∙ c.measure-measured.ensures; put = refl }

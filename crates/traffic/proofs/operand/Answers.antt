@@ -1,4 +1,4 @@
-use Rattle.std.proofs.Common.{arith, rules}
+use Rattle.std.proofs.Common.{arith}
 use Rattle.traffic.proofs.DrawLaws.{operand_atom, operand_word, operand_below}
 use Rattle.traffic.proofs.operand.Goals as goal
 

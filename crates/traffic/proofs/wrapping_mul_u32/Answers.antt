@@ -1,4 +1,4 @@
-use Rattle.std.proofs.Common.{arith, rules}
+use Rattle.std.proofs.Common.{arith}
 use Rattle.traffic.proofs.DrawLaws.{product_fits}
 use Rattle.traffic.proofs.wrapping_mul_u32.Goals as goal
 

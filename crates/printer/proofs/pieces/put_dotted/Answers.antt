@@ -1,4 +1,3 @@
-use borrow.Author.Rules.{rules}
 use native.Mathlib.Omega.{arith}
 use Rattle.base_ten.proofs.PutLaws.{put_both_lem}
 use Rattle.printer.specs.Pieces.{bytes_of}

@@ -1,4 +1,3 @@
-use borrow.Author.Rules.{rules}
 use Rattle.base_ten.specs.Decimal.{most_digits}
 use Rattle.printer.proofs.PieceLaws.{digits_exact}
 use Rattle.printer.proofs.pieces.put_number.Goals as goal

@@ -1,4 +1,3 @@
-use borrow.Author.Rules.{rules}
 use Rattle.printer.specs.Pieces.{bytes_of}
 use Rattle.printer.proofs.pieces.put_piece.Goals as goal
 

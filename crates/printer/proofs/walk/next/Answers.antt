@@ -1,4 +1,3 @@
-use borrow.Author.Rules.{rules}
 use Rattle.printer.specs.Walk.{rests_of, items_of}
 use Rattle.printer.proofs.walk.next.Goals as goal
 

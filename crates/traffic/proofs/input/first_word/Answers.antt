@@ -1,4 +1,4 @@
-use Rattle.std.proofs.Common.{sym, arith, length-take-le, rules}
+use Rattle.std.proofs.Common.{sym, arith, length-take-le}
 use Rattle.traffic.proofs.InputLaws.{one_word, more_words}
 use Rattle.traffic.proofs.input.first_word.Goals as goal
 

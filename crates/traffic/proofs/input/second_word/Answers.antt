@@ -1,4 +1,4 @@
-use Rattle.std.proofs.Common.{sym, arith, length-take-le, rules}
+use Rattle.std.proofs.Common.{sym, arith, length-take-le}
 use Rattle.traffic.proofs.InputLaws.{two_words, more_words_after}
 use Rattle.traffic.proofs.input.second_word.Goals as goal
 

@@ -1,4 +1,3 @@
-use Rattle.std.proofs.Common.{rules}
 use Rattle.traffic.proofs.InputLaws.{three_words, four_words}
 use Rattle.traffic.proofs.input.third_word.Goals as goal
 

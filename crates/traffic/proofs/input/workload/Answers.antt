@@ -1,4 +1,4 @@
-use Rattle.std.proofs.Common.{sym, arith, length-take-le, rules}
+use Rattle.std.proofs.Common.{sym, arith, length-take-le}
 use Rattle.traffic.proofs.InputLaws.{more_lines, one_line}
 use Rattle.traffic.proofs.input.workload.Goals as goal
 
