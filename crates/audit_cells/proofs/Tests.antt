@@ -6,7 +6,7 @@ use native.Mathlib.Numerals.{add-one}
 use native.Mathlib.Omega.{arith}
 use borrow.Author.Tests.{not-true, not-false}
 use Rattle.machine.specs.Range.{every, total}
-use Rattle.machine.proofs.Range.{tested, not_both, and_both, every_at, refuted}
+use Rattle.machine.proofs.Range.{not_both, and_both, every_at, refuted}
 
 -- a call's answer r is the test b: the code asks `!r`
 pub passed : {r b : Bool} → r ≡ b → not r ≡ false → b ≡ true

@@ -1,7 +1,6 @@
 use mathlib.Core.Bool.{not}
 use mathlib.Core.Path.{ap}
 use mathlib.Core.Path.{sym}
-use borrow.Author.Rules.{rules}
 use Rattle.audit_cells.proofs.Tests.{failed, passed}
 use Rattle.audit_cells.proofs.FreeChain.{laid_needed}
 use Rattle.audit_cells.proofs.chain.chain_sound.Goals as goal

@@ -1,14 +1,12 @@
 use mathlib.Core.Bool.{not}
 use mathlib.Core.Path.{ap, ◌≡◌, sym, ◌∙◌}
-use mathlib.Core.List.{List, []}
-use Prim.Native.Nat.{ℕ, ◌-◌, ◌≤◌}
+use mathlib.Core.List.{[]}
 use native.Mathlib.Omega.{arith}
 use lib.Dec.{eqb}
-use borrow.Author.Rules.{rules}
 use Rattle.machine.proofs.Range.{not_both, refuted}
 use Rattle.audit_cells.specs.FreeChain.{free_cells}
 use Rattle.audit_cells.proofs.Tests.{passed, failed}
-use Rattle.audit_cells.proofs.FreeChain.{walk_ends, Walked, walked_none, walked_more, free_cell_lem, walk_next, walk_stops}
+use Rattle.audit_cells.proofs.FreeChain.{walk_ends, walked_none, walked_more, free_cell_lem, walk_next, walk_stops}
 use Rattle.audit_cells.proofs.chain.chain_walks.Goals as goal
 
 pub loop-steps-init : goal.loop-steps-init

@@ -1,6 +1,5 @@
 use mathlib.Core.Path.{sym, ◌∙◌}
 use mathlib.Core.Bool.{true, false}
-use borrow.Author.Rules.{rules}
 use Rattle.audit_cells.proofs.FreeChain.{bit_of}
 use Rattle.audit_cells.proofs.chain.free_bit.Goals as goal
 

@@ -1,12 +1,7 @@
 use mathlib.Core.Path.{◌≡◌}
 use Prim.Native.Nat.{◌-◌, ◌≤◌}
-use native.Mathlib.Omega.{arith}
-use borrow.Author.Rules.{rules}
 use Rattle.machine.specs.Range.{total}
-use Rattle.machine.specs.Table.{capacity}
-use Rattle.audit_cells.specs.FreeChain.{free_bit, free_cells}
-use Rattle.audit_cells.proofs.Tests.{total_none, total_more}
-use Rattle.audit_cells.proofs.FreeChain.{bit_most}
+use Rattle.audit_cells.specs.FreeChain.{free_bit}
 use Rattle.audit_cells.proofs.chain.free_cells.Given as goal
 
 abbrev pub invariant-loop-index : goal.invariant-loop-index

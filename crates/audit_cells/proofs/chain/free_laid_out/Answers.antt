@@ -1,13 +1,9 @@
 use mathlib.Core.Bool.{not}
 use mathlib.Core.Path.{ap}
 use mathlib.Core.Path.{◌≡◌, sym}
-use mathlib.Core.Bool.{true}
-use Prim.Native.Nat.{◌-◌, ◌≤◌}
 use native.Mathlib.Omega.{arith}
-use borrow.Author.Rules.{rules}
-use Rattle.machine.specs.Range.{every}
 use Rattle.machine.specs.Table.{capacity}
-use Rattle.audit_cells.specs.FreeChain.{free_or_used, free_laid_out}
+use Rattle.audit_cells.specs.FreeChain.{free_laid_out}
 use Rattle.audit_cells.proofs.Tests.{passed, failed, every_none, every_more, every_fails}
 use Rattle.audit_cells.proofs.chain.free_laid_out.Goals as goal
 

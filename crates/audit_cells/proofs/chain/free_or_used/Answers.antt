@@ -1,5 +1,4 @@
 use mathlib.Core.Path.{sym, ◌∙◌}
-use borrow.Author.Rules.{rules}
 use Rattle.audit_cells.proofs.FreeChain.{used_passes, free_laid}
 use Rattle.audit_cells.proofs.chain.free_or_used.Goals as goal
 

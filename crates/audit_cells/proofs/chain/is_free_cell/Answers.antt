@@ -1,7 +1,6 @@
 use mathlib.Core.Path.{sym, ap, ◌∙◌}
 use mathlib.Core.Bool.{not}
 use native.Mathlib.Omega.{arith}
-use borrow.Author.Rules.{rules}
 use Rattle.machine.specs.Table.{capacity}
 use Rattle.machine.proofs.Words.{cell_number_lem, cell_index}
 use Rattle.audit_cells.proofs.Cells.{cell_asked}

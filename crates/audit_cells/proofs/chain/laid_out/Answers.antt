@@ -2,7 +2,6 @@ use mathlib.Core.Path.{sym, ap, ◌∙◌}
 use Prim.Native.Nat.{ℕ}
 use native.Mathlib.Omega.{arith}
 use lib.Dec.{eqb}
-use borrow.Author.Rules.{rules}
 use Rattle.machine.specs.Table.{right, root_count, cell_count, state}
 use Rattle.machine.proofs.Chain.{laid_wiped}
 use Rattle.machine.proofs.Range.{refuted}

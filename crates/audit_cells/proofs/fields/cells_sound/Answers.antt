@@ -1,26 +1,18 @@
 use mathlib.Core.Bool.{not}
 use mathlib.Core.Path.{ap}
 use mathlib.Core.Path.{◌≡◌, sym, ◌∙◌}
-use mathlib.Core.Logic.{⊎_elim}
 use mathlib.Core.Bool.{true}
-use Prim.Native.Nat.{ℕ, suc, ◌-◌, ◌≤◌}
+use Prim.Native.Nat.{ℕ, ◌≤◌}
 use native.Mathlib.Omega.{arith}
 use borrow.Author.Tests.{eq-eqb, ne_eqb}
-use borrow.Author.Rules.{rules}
-use Rattle.machine.specs.Audit.{cell_sound, cells_sound}
-use Rattle.machine.specs.Range.{every}
+use Rattle.machine.specs.Audit.{cells_sound}
 use Rattle.machine.specs.Table.{left, right, capacity}
 use Rattle.machine.proofs.Range.{every_at}
 use Rattle.audit_cells.specs.Cells.{field_holds}
 use Rattle.audit_cells.proofs.Cells.{cell_parts, counts_break, field_break}
 use Rattle.audit_cells.proofs.Tests.{passed, failed, every_none, every_more}
 use Rattle.audit_cells.proofs.fields.cells_sound.Goals as goal
-
-abbrev invariant-cells : tie.invariant-cells
-invariant-cells table c index₀ index = (index ≤ c) × (every index (cell_sound table) ≡ true)
-
-abbrev decreases-cells : tie.decreases-cells
-decreases-cells table c index₀ index = c - index
+use Rattle.audit_cells.proofs.fields.cells_sound.Goals.{else-cells-test, then-cells-test+then-not-counts_sound, then-cells-test+else-not-counts_sound+then-loop-k-test+then-not-field_holds}
 
 pub cells-init : goal.cells-init
 cells-init c = (omega arith, every_none _)
@@ -45,9 +37,10 @@ returns c =
     let t = c.args.table.now in
     let i = c.cells.index in
     let n = c.capacity_of-c.result in
-    ⊎_elim
-    (λ w. let e : i ≡ capacity t = omega arith in eq-eqb i n (omega arith) ∙ sym (rw (← e) c.cells.invariant.1))
-    (⊎_elim (λ w. let l = w.0.taken in ne_eqb i n (omega arith) ∙ sym (counts_break t i (omega arith) (failed w.1.ensures w.2.taken)))
-    (λ w. let l = w.0.taken in let m = w.4.taken in
-    ne_eqb i n (omega arith) ∙ sym (field_break t i (omega arith) w.3.k (omega arith) (failed w.5.ensures w.6.taken))))
-    c.cells-test.branch
+    elim c.cells-test.branch [
+      | else-cells-test w ↦ let e : i ≡ capacity t = omega arith in eq-eqb i n (omega arith) ∙ sym (rw (← e) c.cells.invariant.1)
+      | then-cells-test+then-not-counts_sound w ↦
+          ne_eqb i n (omega arith) ∙ sym (counts_break t i (omega arith) (failed w.counts_sound.ensures (ap not w.if-not-counts_sound.true)))
+      | then-cells-test+else-not-counts_sound+then-loop-k-test+then-not-field_holds w ↦
+          ne_eqb i n (omega arith) ∙ sym (field_break t i (omega arith) w.loop-k.k (omega arith) (failed w.field_holds.ensures (ap not w.if-not-field_holds.true)))
+    ]

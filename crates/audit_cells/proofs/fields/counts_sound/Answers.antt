@@ -2,7 +2,6 @@ use mathlib.Core.Path.{sym, ap, ◌∙◌}
 use Prim.Native.Nat.{ℕ}
 use native.Mathlib.Omega.{arith}
 use lib.Dec.{leb}
-use borrow.Author.Rules.{rules}
 use Rattle.machine.specs.Words.{ceiling}
 use Rattle.machine.proofs.Range.{refuted}
 use Rattle.audit_cells.proofs.Cells.{counts_facts, counts_last}

@@ -1,5 +1,4 @@
 use mathlib.Core.Path.{sym, ap, ◌∙◌}
-use borrow.Author.Rules.{rules}
 use Rattle.machine.specs.Audit.{field_sound}
 use Rattle.audit_cells.proofs.Cells.{field_used, field_free}
 use Rattle.audit_cells.proofs.fields.field_holds.Goals as goal

@@ -1,6 +1,5 @@
 use mathlib.Core.Path.{sym, ◌∙◌}
 use native.Mathlib.Omega.{arith}
-use borrow.Author.Rules.{rules}
 use Rattle.audit_cells.proofs.Cells.{nil_sound, atom_sound, past_unsound, cell_sound_lem}
 use Rattle.audit_cells.proofs.fields.field_sound.Goals as goal
 

@@ -1,0 +1,9 @@
+use mathlib.Core.Path.{ap, ◌∙◌}
+use borrow.Author.Rules.{rules}
+use Rattle.machine.specs.Queue.{slot}
+use Rattle.audit_packets.specs.Packets.{packet_on}
+use Rattle.audit_packets.proofs.slots.packet_on.Goals as goal
+
+pub returns : goal.returns
+unfolding packet_on
+returns c = c.packet_at.ensures ∙ ap (slot c.args.queue) c.slot_after.ensures.0
