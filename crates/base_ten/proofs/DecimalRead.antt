@@ -5,12 +5,11 @@ use mathlib.Core.List.{List, [], ◌∷◌, ◌++◌, append_assoc}
 use Prim.Native.Nat.{ℕ, zero, suc, ◌+◌, ◌-◌, ◌*◌, ◌/◌, ◌%◌, ◌^◌, ◌≤◌, ◌<◌}
 use native.Mathlib.Nat.{pow-suc, zero-add}
 use native.Mathlib.Omega.{arith}
-use lib.Dec.{ltb, leb, eqb}
+use lib.Dec.{ltb}
 use borrow.Author.Tests.{ne_eqb, ltb-true, ltb-false, le-leb}
-use Rattle.base_ten.specs.declared.Number
 use Rattle.base_ten.specs.declared.Number.{Number}
 use Rattle.base_ten.specs.Bytes.{digit_zero, digit_nine}
-use Rattle.base_ten.specs.Numbers.{is_digit, number_from, number_of}
+use Rattle.base_ten.specs.Numbers.{number_from, number_of}
 use Rattle.base_ten.specs.Decimal.{digits, most_digits, decimal}
 use Rattle.base_ten.proofs.WordLaws.{append_none}
 

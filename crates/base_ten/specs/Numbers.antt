@@ -1,6 +1,5 @@
 -- Numbers as they are read: in base ten without leading zeros, up to a largest one.
 use Rattle.std.specs.Prelude.{Bool, cond, ◌&&◌, List, [], ◌∷◌, ℕ, ◌+◌, ◌-◌, ◌*◌, ◌≤◌, leb, eqb}
-use Rattle.base_ten.specs.declared.Number
 use Rattle.base_ten.specs.declared.Number.{Number}
 use Rattle.base_ten.specs.Bytes.{digit_zero, digit_nine}
 

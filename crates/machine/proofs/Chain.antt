@@ -11,7 +11,7 @@ use lib.ListN.{length, length-map}
 use borrow.Author.Tests.{eqb-true, eq-eqb}
 use Rattle.machine.specs.Range.{every, total, matching, occurrences, every_of, last_of}
 use Rattle.machine.specs.Words.{is_cell}
-use Rattle.machine.specs.Table.{stride, left, right, root_count, cell_count, state, capacity, first_free, last_free, word_at, in_use, is_free}
+use Rattle.machine.specs.Table.{stride, left, right, capacity, first_free, last_free, word_at, in_use, is_free}
 use Rattle.machine.specs.Calls.{field}
 use Rattle.machine.specs.Audit.{walk, free_chain, laid_out, met_once, chain_sound}
 use Rattle.machine.specs.Facts.{Linked, Chain}

@@ -1,6 +1,4 @@
 -- The definitions mean what `Facts` says.
-use mathlib.Core.List.{List}
-use lib.Dec.{leb}
 use lib.ListN.{length}
 use borrow.Author.Tests.{le-leb}
 use Rattle.machine.specs.Table.{capacity, scratch_words}

@@ -7,7 +7,7 @@ use Prim.Native.Nat.{ℕ, zero, suc, ◌+◌, ◌*◌, ◌≤◌, ◌<◌}
 use native.Mathlib.Omega.{arith}
 use lib.Dec.{ltb, eqb}
 use lib.ListN.{length}
-use borrow.Author.Tests.{ltb-true, ltb-false, lt-ltb, le-ltb, eqb-true, eqb-false}
+use borrow.Author.Tests.{ltb-false, lt-ltb, eqb-true, eqb-false}
 use Rattle.machine.specs.Range.{matching, occurrences}
 use Rattle.machine.specs.Table.{stride, right, root_count, state, name_count, capacity, first_free, last_free, table_length, word_at, in_use}
 use Rattle.machine.specs.Queue.{Packet}

@@ -2,13 +2,10 @@
 use mathlib.Core.Path.{◌≡◌, refl, ap, ◌∙◌}
 use mathlib.Core.Bool.{Bool, true, false, ◌&&◌}
 use mathlib.Core.List.{List, [], ◌∷◌}
-use Prim.Native.Nat.{ℕ, suc, pred}
+use Prim.Native.Nat.{ℕ}
 use native.Mathlib.Omega.{arith}
-use lib.Dec.{eqb}
-use Rattle.machine.specs.Range.{every}
-use Rattle.machine.specs.Table.{left, right, cell_count, capacity, position, word_at, put_word}
+use Rattle.machine.specs.Table.{position, word_at, put_word}
 use Rattle.machine.specs.Packets.{kind_of}
-use Rattle.machine.specs.Counts.{pointers}
 use Rattle.machine.specs.Calls.{field}
 use Rattle.machine.specs.Questions.{pointers_within}
 use Rattle.machine.specs.Audit.{undoable_of, undone_of, undoable, undone, before, undoes, pointers_sound}

@@ -1,13 +1,13 @@
 -- The text of a ring by its left words is brackets without end: the 33rd is one too many, if the room does not end before it.
 use mathlib.Core.Path.{◌≡◌, refl, ap, ◌∙◌}
 use mathlib.Core.Logic.{⊎_elim}
-use mathlib.Core.Bool.{Bool, true, false, not}
+use mathlib.Core.Bool.{false, not}
 use mathlib.Core.List.{List, [], ◌∷◌, ◌++◌, append_assoc}
 use Prim.Native.Nat.{ℕ, zero, suc, ◌+◌, ◌≤◌, ◌<◌}
 use native.Mathlib.Omega.{arith}
 use lib.Dec.{eqb}
 use lib.ListN.{replicate}
-use borrow.Author.Tests.{eqb-true, eqb-false, eq-eqb, ne_eqb}
+use borrow.Author.Tests.{eqb-false, ne_eqb}
 use Rattle.notation.specs.Trees.{Tree, nil, pair}
 use Rattle.notation.specs.Grammar.{open_byte, close_byte}
 use Rattle.notation.specs.Print.{print, print_rest}

@@ -1,7 +1,6 @@
 -- Where name counts are what the waiting packets name, root, protection and reached told from the cell are those told from the queue.
-use mathlib.Core.Path.{◌≡◌, refl, sym, ap, ◌∙◌}
-use mathlib.Core.Bool.{Bool, true, false, ◌||◌, ◌&&◌}
-use mathlib.Core.Logic.{◌↔◌}
+use mathlib.Core.Path.{◌≡◌, sym, ap, ◌∙◌}
+use mathlib.Core.Bool.{Bool, true, ◌||◌, ◌&&◌}
 use mathlib.Core.List.{List}
 use Prim.Native.Nat.{ℕ, suc, ◌<◌}
 use lib.Dec.{ltb, eqb}
@@ -13,7 +12,7 @@ use Rattle.machine.specs.Queue.{Packet, waiting}
 use Rattle.machine.specs.Packets.{is_named, times_named}
 use Rattle.machine.specs.Reached.{is_protected, is_root, is_root_by_queue, points_to, ReachedBy, begun, onward, Reached, ReachedByQueue}
 use Rattle.machine.specs.Audit.{other_slots_zero, packets_legal, replays, names_counted, packets_sound, Sound}
-use Rattle.machine.specs.RootsByCell.{RootsByCell, AllRootsByCell}
+use Rattle.machine.specs.RootsByCell.{AllRootsByCell}
 use Rattle.machine.proofs.Range.{and_second, every_at, every_all}
 use Rattle.machine.proofs.Names.{times_named_lem}
 

@@ -8,7 +8,7 @@ use native.Mathlib.Omega.{arith}
 use lib.Dec.{eqb}
 use lib.ListN.{length, get_or, set, drop, length-set, get_or-replicate}
 use lib.Seq.{get_or-set_same, get_or-set_other, drop-set-lt, set-get_or}
-use Rattle.machine.specs.Table.{stride, header, left, right, root_count, cell_count, state, capacity, first_free, last_free, table_length, free_cell, position, word_at, put_word, put_ends, put_words, put_cell, in_use, is_free}
+use Rattle.machine.specs.Table.{stride, header, left, right, root_count, cell_count, capacity, first_free, last_free, table_length, free_cell, position, word_at, put_word, put_ends, put_words, put_cell, in_use, is_free}
 use borrow.Author.Tests.{eqb-true, eqb-false, not-true}
 use Rattle.machine.proofs.Range.{tested}
 

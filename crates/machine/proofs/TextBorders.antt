@@ -1,16 +1,15 @@
 -- The longest text that is read, and one byte more: spaces before the text of nil.
 use mathlib.Core.Path.{◌≡◌, refl, ap, ◌∙◌}
 use mathlib.Core.Logic.{inr}
-use mathlib.Core.Bool.{Bool, true, false, not, ◌&&◌}
+use mathlib.Core.Bool.{true, false}
 use mathlib.Core.List.{List, [], ◌∷◌, ◌++◌}
-use Prim.Native.Nat.{ℕ, zero, suc, ◌+◌, ◌≤◌, ◌<◌, zero-le}
+use Prim.Native.Nat.{ℕ, zero, suc, ◌+◌, ◌≤◌, ◌<◌}
 use native.Mathlib.Omega.{arith}
-use lib.Dec.{leb}
 use lib.ListN.{length, replicate, length-append, length-replicate}
 use borrow.Author.Tests.{le-leb, lt-leb}
 use Rattle.notation.specs.Trees.{nil, pairs}
 use Rattle.notation.specs.Grammar.{most_text}
-use Rattle.notation.specs.Parse.{Parsed, tree, with_byte, marks_after, list_of, parsed_from, parse, is_tree, meaning}
+use Rattle.notation.specs.Parse.{tree, with_byte, marks_after, list_of, parsed_from, parse}
 use Rattle.notation.specs.Brackets.{open_after, opens_too_many, too_deep}
 use Rattle.machine.specs.Range.{select}
 use Rattle.machine.specs.Queue.{slots}

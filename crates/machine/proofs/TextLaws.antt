@@ -2,7 +2,7 @@
 use mathlib.Core.Path.{◌≡◌, refl, sym, ap, ◌∙◌}
 use mathlib.Core.Bool.{Bool, true, false, cond, ◌&&◌}
 use mathlib.Core.List.{List, [], ◌∷◌, ◌++◌, append_assoc, append-nil}
-use Prim.Native.Nat.{ℕ, zero, suc, ◌+◌, ◌-◌, ◌≤◌, ◌<◌, zero-le}
+use Prim.Native.Nat.{ℕ, zero, suc, ◌+◌, ◌-◌, ◌≤◌, ◌<◌}
 use native.Mathlib.Omega.{arith}
 use lib.Dec.{leb}
 use lib.ListN.{length, take, length-append}
@@ -17,8 +17,7 @@ use Rattle.machine.specs.Words.{is_cell, is_atom, first_atom, largest_word}
 use Rattle.machine.specs.Table.{left, right, capacity}
 use Rattle.machine.specs.Calls.{field}
 use Rattle.machine.specs.Texts.{leaf, OpensOut, ends, opens, opened, text_for}
-use Rattle.machine.specs.TextFacts.{EnoughOpened, OpenedEnough, WholeTree, OneTree, PrintedWhole, OpenedValues}
-use Rattle.machine.proofs.Range.{and_first, and_second}
+use Rattle.machine.specs.TextFacts.{OpenedEnough, WholeTree, OneTree, PrintedWhole, OpenedValues}
 
 -- two texts have the same first bytes
 abbrev pub SameFront : ℕ → List ℕ → List ℕ → Type 0

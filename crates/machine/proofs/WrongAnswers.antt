@@ -7,14 +7,14 @@ use native.Mathlib.Omega.{arith}
 use lib.ListN.{length}
 use Rattle.base_ten.specs.Bytes.{ascii}
 use borrow.Author.Tests.{le-leb}
-use Rattle.machine.specs.Table.{table_length, capacity}
+use Rattle.machine.specs.Table.{table_length}
 use Rattle.machine.specs.Queue.{empty_queue}
 use Rattle.machine.specs.Calls.{fresh, write, Reply, value, text, Store, store, fresh_table}
 use Rattle.machine.specs.Step.{outcome}
 use Rattle.machine.specs.Questions.{first_no, cells_in_range, long_enough, early, late, questions}
 use Rattle.machine.specs.Machine.{accepted}
 use Rattle.machine.specs.Answers.{filled_part}
-use Rattle.machine.specs.Promise.{Promise, numbers, TextHanded}
+use Rattle.machine.specs.Promise.{numbers, TextHanded}
 use Rattle.machine.specs.WrongAnswers as table
 use Rattle.machine.specs.WrongAnswers.{noes, OnlyAnswer, OnDamaged, WrongAnswers}
 use Rattle.machine.proofs.Computes.{computes, computes_text}

@@ -1,5 +1,5 @@
 -- The one promise that every public call keeps, for any store s, call, reply r and store afterwards s'.
-use Rattle.std.specs.Prelude.{◌≡◌, true, false, ◌⊎◌, List, ◌++◌, map, ℕ, suc, length, drop}
+use Rattle.std.specs.Prelude.{◌≡◌, true, ◌⊎◌, List, ◌++◌, map, ℕ, suc, length, drop}
 use Rattle.machine.specs.Table.{capacity, table_length, scratch_words}
 use Rattle.machine.specs.Packets.{contains}
 use Rattle.machine.specs.Calls.{Call, fresh, row, step, audit, read, write, Reply, refused, Store, reads_nil}

@@ -1,5 +1,5 @@
 -- Rule text in and out (document 02, A4): the cells that a tree takes, and the tree that a word opens out into.
-use Rattle.std.specs.Prelude.{◌≡◌, Bool, true, false, cond, ◌&&◌, List, [], ℕ, zero, suc, ◌+◌, ◌-◌}
+use Rattle.std.specs.Prelude.{◌≡◌, Bool, true, false, cond, ◌&&◌, List, ℕ, zero, suc, ◌+◌, ◌-◌}
 use Rattle.notation.specs.Trees.{Tree, nil, atom, pair}
 use Rattle.notation.specs.Print.{print}
 use Rattle.machine.specs.Words.{is_cell, is_atom, first_atom, may_be_stored}

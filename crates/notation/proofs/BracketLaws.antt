@@ -7,7 +7,7 @@ use native.Mathlib.Omega.{arith}
 use lib.Dec.{eqb}
 use lib.ListN.{length, take}
 use borrow.Author.Tests.{ne_eqb}
-use Rattle.notation.specs.Brackets.{open_after, opens_too_many, Met, nothing, too_many, no_room, first_met}
+use Rattle.notation.specs.Brackets.{open_after, opens_too_many, nothing, too_many, no_room, first_met}
 
 pub many_met : too_many ≡ nothing → ⊥
 many_met e = let z : ◌≡◌ {A = ℕ} 0 1 = cc in omega arith

@@ -7,7 +7,6 @@ use Rattle.notation.specs.Trees.{Tree, Values}
 use Rattle.notation.specs.Grammar.{Spells, ends, InNotation}
 use Rattle.notation.specs.Parse.{within, marks_of, start, parse, tree}
 use Rattle.notation.specs.Print.{print}
-use Rattle.notation.specs.Brackets.{too_deep}
 use Rattle.notation.specs.Recognises.{Recognises, ParsesPrinted, ValuesRead, OneMeaning, PrintsShallow}
 use Rattle.notation.proofs.MarkLaws.{spelled, spells}
 use Rattle.notation.proofs.FrameLaws.{tokens_of, datum_parsed, parsed_datum, parsed_tokens}

@@ -4,8 +4,7 @@
 --   rest  ::= ) | . datum ) | datum rest
 --
 -- So a list's brackets hold nothing, or at least one element, and behind a dot exactly one part.
-use Rattle.std.specs.Prelude.{◌≡◌, Bool, true, false, List, [], ◌∷◌, ◌++◌, ℕ}
-use Rattle.base_ten.specs.declared.Number
+use Rattle.std.specs.Prelude.{◌≡◌, false, List, [], ◌∷◌, ◌++◌, ℕ}
 use Rattle.base_ten.specs.declared.Number.{Number}
 use Rattle.base_ten.specs.Bytes.{space}
 use Rattle.base_ten.specs.Numbers.{is_digit, number_of}

@@ -1,6 +1,5 @@
 -- Parsing: from bytes to tokens, and from tokens to a tree with the open lists as a stack. `Recognises` says that this is the grammar.
 use Rattle.std.specs.Prelude.{Bool, true, false, cond, List, [], ◌∷◌, ◌++◌, ℕ, eqb}
-use Rattle.base_ten.specs.declared.Number
 use Rattle.base_ten.specs.declared.Number.{Number}
 use Rattle.base_ten.specs.Bytes.{space}
 use Rattle.base_ten.specs.Numbers.{is_digit, number_of}

@@ -6,7 +6,6 @@ use Prim.Native.Nat.{ℕ, suc, pred, ◌≤◌}
 use native.Mathlib.Omega.{arith}
 use lib.Dec.{leb, eqb}
 use borrow.Author.Tests.{eqb-true, leb-true, ne_eqb}
-use Rattle.base_ten.specs.declared.Number
 use Rattle.base_ten.specs.declared.Number.{Number}
 use Rattle.base_ten.specs.Bytes.{space, digit_zero, digit_nine}
 use Rattle.base_ten.specs.Numbers.{is_digit, number_of}

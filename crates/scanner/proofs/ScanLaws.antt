@@ -11,13 +11,11 @@ use lib.ListN.{length, drop, drop_of_length-le, length-drop, length-map}
 use borrow.Author.Tests.{lt-leb, le-leb}
 use Rattle.notation.specs.Trees.{Tree, nil, atom, pair, pairs, largest}
 use Rattle.notation.specs.Grammar.{Token, opening, closing, dot, number, most_text}
-use Rattle.notation.specs.Parse.{Mark, token, foreign, Frame, plain, dotted, full, State, within, outside, deliver, list_of, close_list, dot_list, next, parsed_from, marks_after, marks_of, start, tree, none, tree_of, parse}
+use Rattle.notation.specs.Parse.{Mark, token, foreign, Frame, plain, dotted, full, State, within, outside, deliver, list_of, close_list, dot_list, parsed_from, marks_after, marks_of, start, tree, none, tree_of, parse}
 use Rattle.notation.specs.Brackets.{most_open, too_deep}
 use Rattle.notation.proofs.Tall.{too_tall, stays_outside, marks_short}
-use Rattle.scanner.specs.declared.Scanned
 use Rattle.scanner.specs.declared.Scanned.{Scanned}
 use Rattle.scanner.specs.declared.lists.Scan.{Scan}
-use Rattle.scanner.specs.declared.lists.Taken
 use Rattle.scanner.specs.declared.lists.Taken.{Taken}
 use Rattle.scanner.specs.Modes.{most_modes, unstacked, Stacked, Pushed, Popped}
 use Rattle.scanner.specs.Scans.{judged, scan_of}

@@ -7,15 +7,13 @@ use native.Mathlib.Omega.{arith}
 use lib.ListN.{length, get_or, take, drop, drop_of_length-le, length-drop, length-take}
 use lib.Seq.{take-suc, get_or-drop}
 use borrow.Author.Tests.{ne_eqb, le-leb, lt-leb}
-use Rattle.base_ten.specs.declared.Number
 use Rattle.base_ten.specs.declared.Number.{Number}
 use Rattle.base_ten.specs.Bytes.{space, digit_zero, digit_nine}
 use Rattle.base_ten.specs.Numbers.{is_digit, number_of}
 use Rattle.base_ten.proofs.ByteLaws.{drop_at}
 use Rattle.notation.specs.Trees.{largest_value}
-use Rattle.notation.specs.Grammar.{open_byte, close_byte, dot_byte, number}
-use Rattle.notation.specs.Parse.{Mark, token, foreign, number_mark, with_digits, with_byte, marks_after, marks_of}
-use Rattle.scanner.specs.declared.tokens.Token
+use Rattle.notation.specs.Grammar.{open_byte, close_byte, dot_byte}
+use Rattle.notation.specs.Parse.{Mark, foreign, number_mark, with_digits, with_byte, marks_after, marks_of}
 use Rattle.scanner.specs.declared.tokens.Token.{Token}
 use Rattle.scanner.specs.Tokens.{marks_of_token, ValueOfToken, TokenAt, DigitAt, DigitsEnd}
 

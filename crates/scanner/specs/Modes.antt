@@ -1,5 +1,5 @@
 -- A stack of modes, numbers from 0 to 3, in words of 64 bits: 32 modes a word, two bits each, the last pushed on top.
-use Rattle.std.specs.Prelude.{◌≡◌, List, [], ◌∷◌, ℕ, zero, suc, ◌+◌, ◌-◌, ◌*◌, ◌/◌, ◌%◌, ◌≤◌, ◌<◌, length, get_or, set}
+use Rattle.std.specs.Prelude.{◌≡◌, List, [], ◌∷◌, ℕ, zero, suc, ◌+◌, ◌-◌, ◌/◌, ◌%◌, length, get_or, set}
 
 abbrev pub in_word : ℕ
 in_word = 32

@@ -5,7 +5,6 @@ use Rattle.notation.specs.Grammar.{Token, opening, closing, dot, number}
 use Rattle.notation.specs.Parse.{Mark, token, foreign, Frame, plain, dotted, full, State, within, deliver, on_token, marks_of, parsed_from, tree_of, parse, none}
 use Rattle.notation.specs.Brackets.{most_open, too_deep}
 use Rattle.scanner.specs.declared.lists.Scan.{Scan}
-use Rattle.scanner.specs.declared.lists.Taken
 use Rattle.scanner.specs.declared.lists.Taken.{Taken}
 use Rattle.scanner.specs.Modes.{most_modes, unstacked, Stacked}
 use Rattle.notation.specs.Grammar.{most_text}

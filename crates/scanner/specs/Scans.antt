@@ -4,7 +4,6 @@ use Rattle.notation.specs.Trees.{pairs, largest}
 use Rattle.notation.specs.Grammar.{most_text}
 use Rattle.notation.specs.Parse.{Parsed, tree, none, parse}
 use Rattle.notation.specs.Brackets.{too_deep}
-use Rattle.scanner.specs.declared.Scanned
 use Rattle.scanner.specs.declared.Scanned.{Scanned}
 
 abbrev pub judged : List ℕ → Parsed → Scanned

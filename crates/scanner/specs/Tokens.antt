@@ -4,7 +4,6 @@ use Rattle.base_ten.specs.Bytes.{digit_zero, digit_nine}
 use Rattle.notation.specs.Trees.{largest_value}
 use Rattle.notation.specs.Grammar.{opening, closing, dot, number}
 use Rattle.notation.specs.Parse.{Mark, token, foreign, with_digits, marks_of}
-use Rattle.scanner.specs.declared.tokens.Token
 use Rattle.scanner.specs.declared.tokens.Token.{Token}
 use Rattle.scanner.specs.declared.tokens.TokenRead.{TokenRead}
 

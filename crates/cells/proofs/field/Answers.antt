@@ -1,4 +1,3 @@
-use borrow.Author.Rules.{rules}
 use native.Mathlib.Omega.{arith}
 use Rattle.cells.proofs.Words.{read_part}
 use Rattle.cells.proofs.field.Goals as goal

@@ -1,6 +1,5 @@
 use mathlib.Core.Path.{ap}
 use lib.Dec.{ltb}
-use borrow.Author.Rules.{rules}
 use Rattle.machine.specs.Table.{in_use}
 use Rattle.cells.proofs.in_use.Goals as goal
 

@@ -1,4 +1,3 @@
-use borrow.Author.Rules.{rules}
 use Rattle.machine.specs.Table.{put_words, put_cell}
 use Rattle.cells.proofs.set_new.Goals as goal
 

@@ -1,4 +1,3 @@
-use borrow.Author.Rules.{rules}
 use native.Mathlib.Omega.{arith}
 use Rattle.machine.specs.Table.{root_count}
 use Rattle.cells.proofs.Words.{written_part}

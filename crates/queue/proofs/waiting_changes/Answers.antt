@@ -1,11 +1,9 @@
 use mathlib.Core.Path.{◌≡◌}
 use mathlib.Core.List.{List}
-use Prim.Native.Nat.{ℕ, ◌-◌, ◌≤◌, ◌<◌}
+use Prim.Native.Nat.{ℕ}
 use native.Mathlib.Omega.{arith}
-use borrow.Author.Rules.{rules}
 use Rattle.machine.specs.declared.Queue.{Queue}
-use Rattle.machine.specs.Queue.{slots, queue_of, slot, packets_from, waiting}
-use Rattle.queue.specs.Sums.{SumsOf, Bounded}
+use Rattle.machine.specs.Queue.{queue_of, slot, waiting}
 use Rattle.queue.proofs.Totals.{sums_none, sums_more}
 use Rattle.queue.proofs.waiting_changes.Goals as goal
 

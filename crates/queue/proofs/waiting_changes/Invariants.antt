@@ -1,12 +1,7 @@
-use mathlib.Core.Path.{◌≡◌}
 use mathlib.Core.List.{List}
 use Prim.Native.Nat.{ℕ, ◌-◌, ◌≤◌, ◌<◌}
-use native.Mathlib.Omega.{arith}
-use borrow.Author.Rules.{rules}
-use Rattle.machine.specs.declared.Queue.{Queue}
-use Rattle.machine.specs.Queue.{slots, queue_of, slot, packets_from, waiting}
+use Rattle.machine.specs.Queue.{slots, queue_of, packets_from}
 use Rattle.queue.specs.Sums.{SumsOf, Bounded}
-use Rattle.queue.proofs.Totals.{sums_none, sums_more}
 use Rattle.queue.proofs.waiting_changes.Given as goal
 
 abbrev pub invariant-loop-i : goal.invariant-loop-i

@@ -1,7 +1,6 @@
 use mathlib.Core.Path.{ap}
 use mathlib.Core.Logic.{⊎_elim, inl, inr}
 use native.Mathlib.Omega.{arith}
-use borrow.Author.Rules.{rules}
 use Rattle.machine.specs.Table.{left, right}
 use Rattle.machine.specs.Packets.{reads, makes, replaces, raises, lowers, unknown, kind_of, changes_of, moved_by}
 use Rattle.queue.proofs.Totals.{added, none_added, kind_unknown}

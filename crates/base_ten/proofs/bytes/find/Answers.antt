@@ -1,10 +1,8 @@
-use mathlib.Core.Path.{◌≡◌, sym, ◌∙◌}
-use Prim.Native.Nat.{◌+◌, ◌-◌, ◌≤◌}
+use mathlib.Core.Path.{◌∙◌}
+use Prim.Native.Nat.{◌+◌}
 use native.Mathlib.Omega.{arith}
 use native.Mathlib.Nat.{zero-add}
-use lib.ListN.{length}
-use Rattle.base_ten.proofs.ByteLaws.{Past, past_next, past_found}
-use borrow.Author.Rules.{rules}
+use Rattle.base_ten.proofs.ByteLaws.{past_next, past_found}
 use Rattle.base_ten.proofs.bytes.find.Goals as goal
 
 pub loop-i-init : goal.loop-i-init

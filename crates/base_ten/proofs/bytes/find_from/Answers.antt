@@ -1,9 +1,5 @@
-use mathlib.Core.Path.{◌≡◌, refl, sym, ◌∙◌}
-use Prim.Native.Nat.{◌+◌, ◌-◌, ◌≤◌}
+use mathlib.Core.Path.{refl, sym, ◌∙◌}
 use native.Mathlib.Omega.{arith}
-use lib.ListN.{length, drop}
-use borrow.Author.Rules.{rules}
-use Rattle.base_ten.specs.Bytes.{before}
 use Rattle.base_ten.proofs.ByteLaws.{before_step, before_found, before_end}
 use Rattle.base_ten.proofs.bytes.find_from.Goals as goal
 

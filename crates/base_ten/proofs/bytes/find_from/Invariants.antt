@@ -1,10 +1,7 @@
-use mathlib.Core.Path.{◌≡◌, refl, sym, ◌∙◌}
+use mathlib.Core.Path.{◌≡◌}
 use Prim.Native.Nat.{◌+◌, ◌-◌, ◌≤◌}
-use native.Mathlib.Omega.{arith}
 use lib.ListN.{length, drop}
-use borrow.Author.Rules.{rules}
 use Rattle.base_ten.specs.Bytes.{before}
-use Rattle.base_ten.proofs.ByteLaws.{before_step, before_found, before_end}
 use Rattle.base_ten.proofs.bytes.find_from.Given as goal
 
 abbrev pub invariant-loop-i : goal.invariant-loop-i

@@ -1,5 +1,4 @@
 use Rattle.base_ten.proofs.KeepLaws.{last_part}
-use borrow.Author.Rules.{rules}
 use Rattle.base_ten.proofs.bytes.next_line_feed.Goals as goal
 
 pub returns : goal.returns

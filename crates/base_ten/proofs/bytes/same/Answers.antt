@@ -1,9 +1,5 @@
-use mathlib.Core.Path.{◌≡◌, refl, sym, ◌∙◌}
-use Prim.Native.Nat.{◌-◌, ◌≤◌}
+use mathlib.Core.Path.{refl, sym, ◌∙◌}
 use native.Mathlib.Omega.{arith}
-use lib.ListN.{length, drop}
-use borrow.Author.Rules.{rules}
-use Rattle.base_ten.specs.Bytes.{same_bytes}
 use Rattle.base_ten.proofs.ByteLaws.{same_lengths, same_step, same_differ, same_end}
 use Rattle.base_ten.proofs.bytes.same.Goals as goal
 

@@ -1,9 +1,5 @@
-use mathlib.Core.Path.{◌≡◌, refl, sym, ◌∙◌}
-use Prim.Native.Nat.{◌+◌, ◌-◌, ◌*◌, ◌≤◌}
+use mathlib.Core.Path.{refl, sym, ◌∙◌}
 use native.Mathlib.Omega.{arith}
-use lib.ListN.{length, drop}
-use borrow.Author.Rules.{rules}
-use Rattle.base_ten.specs.Numbers.{number_from}
 use Rattle.base_ten.proofs.NumberLaws.{number_large, number_step, number_below, number_above, number_end}
 use Rattle.base_ten.proofs.numbers.from_digits.Goals as goal
 

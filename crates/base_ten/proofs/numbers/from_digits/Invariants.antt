@@ -1,10 +1,7 @@
-use mathlib.Core.Path.{◌≡◌, refl, sym, ◌∙◌}
+use mathlib.Core.Path.{◌≡◌}
 use Prim.Native.Nat.{◌+◌, ◌-◌, ◌*◌, ◌≤◌}
-use native.Mathlib.Omega.{arith}
 use lib.ListN.{length, drop}
-use borrow.Author.Rules.{rules}
 use Rattle.base_ten.specs.Numbers.{number_from}
-use Rattle.base_ten.proofs.NumberLaws.{number_large, number_step, number_below, number_above, number_end}
 use Rattle.base_ten.proofs.numbers.from_digits.Given as goal
 
 abbrev pub invariant-loop-i : goal.invariant-loop-i

@@ -1,5 +1,4 @@
 use native.Mathlib.Omega.{arith}
-use borrow.Author.Rules.{rules}
 use Rattle.base_ten.specs.Decimal.{most_digits}
 use Rattle.base_ten.proofs.PutLaws.{put_both_lem, put_byte, digits_one}
 use Rattle.base_ten.proofs.put.put_counted.Goals as goal

@@ -1,11 +1,6 @@
 use mathlib.Core.Path.{refl}
-use mathlib.Core.List.{◌++◌}
-use mathlib.Core.Path.{◌≡◌, sym, ◌∙◌}
-use Prim.Native.Nat.{◌+◌, ◌-◌, ◌≤◌}
 use native.Mathlib.Omega.{arith}
 use lib.ListN.{length-set}
-use lib.ListN.{length, take}
-use borrow.Author.Rules.{rules}
 use Rattle.base_ten.proofs.PutLaws.{word_none, word_step, word_all}
 use Rattle.base_ten.proofs.put.put_word.Goals as goal
 

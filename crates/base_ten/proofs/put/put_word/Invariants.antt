@@ -1,12 +1,7 @@
-use mathlib.Core.Path.{refl}
 use mathlib.Core.List.{◌++◌}
-use mathlib.Core.Path.{◌≡◌, sym, ◌∙◌}
+use mathlib.Core.Path.{◌≡◌}
 use Prim.Native.Nat.{◌+◌, ◌-◌, ◌≤◌}
-use native.Mathlib.Omega.{arith}
-use lib.ListN.{length-set}
 use lib.ListN.{length, take}
-use borrow.Author.Rules.{rules}
-use Rattle.base_ten.proofs.PutLaws.{word_none, word_step, word_all}
 use Rattle.base_ten.proofs.put.put_word.Given as goal
 
 abbrev pub invariant-loop-i : goal.invariant-loop-i

@@ -1,4 +1,3 @@
-use borrow.Author.Rules.{rules}
 use Rattle.scanner.proofs.ScanLaws.{closes_none, closes_dotted, closes}
 use Rattle.scanner.proofs.lists.close_list.Goals as goal
 

@@ -1,5 +1,4 @@
 use native.Mathlib.Omega.{arith}
-use borrow.Author.Rules.{rules}
 use Rattle.scanner.proofs.ScanLaws.{deliver_full, deliver_behind, deliver_element}
 use Rattle.scanner.proofs.lists.deliver.Goals as goal
 

@@ -1,5 +1,4 @@
 use native.Mathlib.Omega.{arith}
-use borrow.Author.Rules.{rules}
 use Rattle.scanner.proofs.ScanLaws.{too_many_lem, opens}
 use Rattle.scanner.proofs.lists.open_list.Goals as goal
 

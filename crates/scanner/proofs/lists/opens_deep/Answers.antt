@@ -1,4 +1,3 @@
-use borrow.Author.Rules.{rules}
 use Rattle.scanner.proofs.lists.opens_deep.Goals as goal
 
 pub returns : goal.returns

@@ -1,5 +1,4 @@
 use native.Mathlib.Omega.{arith}
-use borrow.Author.Rules.{rules}
 use Rattle.scanner.proofs.ScanLaws.{dot_outside, dot_taken}
 use Rattle.scanner.proofs.lists.put_dot.Goals as goal
 

@@ -1,5 +1,4 @@
 use native.Mathlib.Omega.{arith}
-use borrow.Author.Rules.{rules}
 use Rattle.notation.specs.Grammar.{opening, closing, dot, number}
 use Rattle.scanner.proofs.ScanLaws.{blank_read, token_read, foreign_read, number_read, taken_from}
 use Rattle.scanner.proofs.lists.take_token.Goals as goal

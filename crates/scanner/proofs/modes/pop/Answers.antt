@@ -1,4 +1,3 @@
-use borrow.Author.Rules.{rules}
 use Rattle.scanner.proofs.ModeLaws.{pops}
 use Rattle.scanner.proofs.modes.pop.Goals as goal
 

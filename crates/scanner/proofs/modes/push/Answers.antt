@@ -1,5 +1,4 @@
 use native.Mathlib.Omega.{arith}
-use borrow.Author.Rules.{rules}
 use Rattle.scanner.proofs.ModeLaws.{room, pushes}
 use Rattle.scanner.proofs.modes.push.Goals as goal
 

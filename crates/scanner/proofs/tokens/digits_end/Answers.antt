@@ -1,10 +1,7 @@
 use mathlib.Core.Path.{◌∙◌}
-use Prim.Native.Nat.{◌-◌, ◌≤◌, ◌<◌}
 use native.Mathlib.Omega.{arith}
-use lib.ListN.{length}
-use borrow.Author.Rules.{rules}
 use Rattle.scanner.specs.Tokens.{DigitAt}
-use Rattle.scanner.proofs.TokenLaws.{Digits, digits_none, digits_more, below_digits, above_digits, after_other, after_all}
+use Rattle.scanner.proofs.TokenLaws.{digits_none, digits_more, below_digits, above_digits, after_other, after_all}
 use Rattle.scanner.proofs.tokens.digits_end.Goals as goal
 
 pub loop-i-init : goal.loop-i-init

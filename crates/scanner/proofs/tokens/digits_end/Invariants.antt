@@ -1,10 +1,6 @@
-use mathlib.Core.Path.{◌∙◌}
 use Prim.Native.Nat.{◌-◌, ◌≤◌, ◌<◌}
-use native.Mathlib.Omega.{arith}
 use lib.ListN.{length}
-use borrow.Author.Rules.{rules}
-use Rattle.scanner.specs.Tokens.{DigitAt}
-use Rattle.scanner.proofs.TokenLaws.{Digits, digits_none, digits_more, below_digits, above_digits, after_other, after_all}
+use Rattle.scanner.proofs.TokenLaws.{Digits}
 use Rattle.scanner.proofs.tokens.digits_end.Given as goal
 
 abbrev pub invariant-loop-i : goal.invariant-loop-i

@@ -1,5 +1,4 @@
 use native.Mathlib.Omega.{arith}
-use borrow.Author.Rules.{rules}
 use Rattle.scanner.proofs.TokenLaws.{number_token}
 use Rattle.scanner.proofs.tokens.number_at.Goals as goal
 

@@ -1,5 +1,4 @@
 use mathlib.Core.Path.{refl}
-use borrow.Author.Rules.{rules}
 use Rattle.notation.specs.Parse.{with_byte}
 use Rattle.scanner.proofs.TokenLaws.{byte_token, foreign_byte, below_digits, above_digits}
 use Rattle.scanner.proofs.tokens.token_at.Goals as goal
