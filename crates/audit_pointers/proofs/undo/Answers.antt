@@ -62,6 +62,5 @@ pub returns-in_default : goal.returns-in_default
 returns-in_default c =
     let i = c.args in
     let p = c.packet_on-p.result in
-    let none = c.in_default.in_default-own.rest in
     undo_kept i.table.now i.queue i.j i.scratch.now c.requires (packet_of p) c.packet_on-p.ensures
-    (keeps p.kind none.0.0.1 none.0.1 none.1)
+    (keeps p.kind (λ e. omega arith) (λ e. omega arith) (λ e. omega arith))

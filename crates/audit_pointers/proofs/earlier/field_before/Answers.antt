@@ -51,5 +51,4 @@ returns-else-k-eq-RIGHT c =
 pub returns-in_default : goal.returns-in_default
 returns-in_default c =
     let i = c.args in
-    let r = c.in_default.in_default-own.rest in
-    sym (kept_field (packet_of i.p) i.index i.k i.after (keeps i.p.kind r.0.0.1 r.0.1 r.1))
+    sym (kept_field (packet_of i.p) i.index i.k i.after (keeps i.p.kind (λ e. omega arith) (λ e. omega arith) (λ e. omega arith)))
