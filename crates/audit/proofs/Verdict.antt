@@ -5,11 +5,9 @@ use mathlib.Core.List.{List}
 use Prim.Native.Nat.{ℕ, zero, suc}
 use native.Mathlib.Omega.{arith}
 use lib.ListN.{drop}
-use Rattle.machine.specs.declared.AuditAnswer
 use Rattle.machine.specs.declared.AuditAnswer.{AuditAnswer}
 use Rattle.machine.specs.declared.Queue.{Queue}
 use Rattle.machine.specs.declared.Refusal.{Refusal}
-use Rattle.machine.specs.declared.Rule
 use Rattle.machine.specs.declared.Rule.{Rule}
 use Rattle.machine.specs.Answers.{refusal_number, rule_number}
 use Rattle.machine.specs.Audit.{cells_sound, chain_sound, other_slots_zero, packets_legal, names_counted, packets_sound, pointers_sound, all_reached, rules, audit_reply, audited}

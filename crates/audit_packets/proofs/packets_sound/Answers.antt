@@ -1,7 +1,6 @@
 use mathlib.Core.Bool.{not}
 use mathlib.Core.Path.{ap}
 use mathlib.Core.Path.{refl, sym, ◌∙◌}
-use borrow.Author.Rules.{rules}
 use Rattle.audit_cells.proofs.Tests.{passed, failed}
 use Rattle.audit_packets.proofs.Parts.{slots_fail, legal_fails, replay_fails, names_decide}
 use Rattle.audit_packets.proofs.packets_sound.Goals as goal

@@ -1,6 +1,6 @@
+use native.Mathlib.Omega.{arith}
 use mathlib.Core.Path.{ap, ◌∙◌}
-use mathlib.Core.Logic.{inl, inr, ⊎_elim}
-use borrow.Author.Rules.{rules}
+use mathlib.Core.Logic.{⊎_elim}
 use Rattle.machine.specs.Packets.{reads, makes, replaces, raises, lowers, unknown, kind_of, names_of}
 use Rattle.machine.specs.Range.{every_of}
 use Rattle.machine.specs.Table.{left, right}
@@ -43,7 +43,6 @@ returns-in-5 c =
 pub returns-in_default : goal.returns-in_default
 unfolding names_of every_of
 returns-in_default c =
-    let r = c.in_default.in_default-own.rest in
     let i = c.args in
     names_by i.table.now (packet_of i.p) unknown
-    (kind_unknown i.p.kind r.0.0.0.0.1 r.0.0.0.1 (λ e. r.0.0.1 (inl e)) r.0.1 r.1 (λ e. r.0.0.1 (inr e)))
+    (kind_unknown i.p.kind (λ e. grind arith) (λ e. grind arith) (λ e. grind arith) (λ e. grind arith) (λ e. grind arith) (λ e. grind arith))

@@ -1,7 +1,6 @@
 use mathlib.Core.Bool.{not}
 use mathlib.Core.Path.{ap}
 use mathlib.Core.Path.{sym, ◌∙◌}
-use borrow.Author.Rules.{rules}
 use Rattle.machine.specs.Audit.{names_in_use}
 use Rattle.queue.specs.Sums.{packet_of}
 use Rattle.audit_packets.specs.Packets.{packet_sound}

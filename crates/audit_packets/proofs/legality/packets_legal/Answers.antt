@@ -1,10 +1,6 @@
 use mathlib.Core.Bool.{not}
 use mathlib.Core.Path.{ap, ◌≡◌, sym, ◌∙◌}
-use mathlib.Core.Bool.{true}
-use Prim.Native.Nat.{◌-◌, ◌≤◌}
 use native.Mathlib.Omega.{arith}
-use borrow.Author.Rules.{rules}
-use Rattle.machine.specs.Range.{every}
 use Rattle.audit_packets.specs.Packets.{packet_on, packet_sound}
 use Rattle.audit_cells.proofs.Tests.{passed, failed, every_none, every_more, every_fails}
 use Rattle.audit_packets.proofs.LegalPackets.{legal_every}

@@ -2,7 +2,6 @@ use mathlib.Core.Bool.{not}
 use mathlib.Core.Path.{ap}
 use mathlib.Core.Path.{sym}
 use lib.Dec.{eqb}
-use borrow.Author.Rules.{rules}
 use Rattle.machine.specs.Audit.{words_of_kind}
 use Rattle.machine.specs.Words.{is_cell}
 use Rattle.audit_cells.proofs.Tests.{passed, failed, first_fails, second_fails, third_decides}

@@ -1,7 +1,6 @@
 use mathlib.Core.Bool.{not}
 use mathlib.Core.Path.{ap}
 use mathlib.Core.Path.{sym, ◌∙◌}
-use borrow.Author.Rules.{rules}
 use Rattle.audit_cells.proofs.Tests.{passed, failed}
 use Rattle.audit_packets.proofs.LegalPackets.{name_first, name_second, name_third}
 use Rattle.audit_packets.proofs.legality.words_in_use.Goals as goal

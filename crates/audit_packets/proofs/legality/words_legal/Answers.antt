@@ -1,6 +1,6 @@
+use native.Mathlib.Omega.{arith}
 use mathlib.Core.Path.{◌≡◌, refl, ap}
-use mathlib.Core.Logic.{inl, inr, ⊎_elim}
-use borrow.Author.Rules.{rules}
+use mathlib.Core.Logic.{⊎_elim}
 use Rattle.machine.specs.Audit.{words_of_kind}
 use Rattle.machine.specs.Packets.{reads, makes, raises, lowers, kind_of}
 use Rattle.queue.proofs.Totals.{kind_unknown}
@@ -40,5 +40,4 @@ returns-in-5 c =
 pub returns-in_default : goal.returns-in_default
 unfolding words_of_kind
 returns-in_default c =
-    let r = c.in_default.in_default-own.rest in
-    rw (kind_unknown c.args.p.kind r.0.0.0.0.1 r.0.0.0.1 (λ e. r.0.0.1 (inl e)) r.0.1 r.1 (λ e. r.0.0.1 (inr e))) refl
+    rw (kind_unknown c.args.p.kind (λ e. grind arith) (λ e. grind arith) (λ e. grind arith) (λ e. grind arith) (λ e. grind arith) (λ e. grind arith)) refl

@@ -1,8 +1,6 @@
-use mathlib.Core.Path.{◌≡◌, refl, ◌∙◌}
-use Prim.Native.Nat.{◌-◌, ◌≤◌}
+use mathlib.Core.Path.{refl, ◌∙◌}
 use native.Mathlib.Omega.{arith}
-use borrow.Author.Rules.{rules}
-use Rattle.audit_packets.proofs.NamesInScratch.{Counting, counting_none, counting_more, counting_below, counting_done}
+use Rattle.audit_packets.proofs.NamesInScratch.{counting_none, counting_more, counting_below, counting_done}
 use Rattle.audit_packets.proofs.names.count_names.Goals as goal
 
 pub loop-j-init : goal.loop-j-init

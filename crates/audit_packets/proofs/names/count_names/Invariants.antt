@@ -1,8 +1,6 @@
-use mathlib.Core.Path.{◌≡◌, refl, ◌∙◌}
+use mathlib.Core.Path.{◌≡◌}
 use Prim.Native.Nat.{◌-◌, ◌≤◌}
-use native.Mathlib.Omega.{arith}
-use borrow.Author.Rules.{rules}
-use Rattle.audit_packets.proofs.NamesInScratch.{Counting, counting_none, counting_more, counting_below, counting_done}
+use Rattle.audit_packets.proofs.NamesInScratch.{Counting}
 use Rattle.audit_packets.proofs.names.count_names.Given as goal
 
 abbrev pub invariant-loop-j : goal.invariant-loop-j

@@ -1,5 +1,4 @@
 use native.Mathlib.Omega.{arith}
-use borrow.Author.Rules.{rules}
 use Rattle.queue.specs.Sums.{packet_of}
 use Rattle.scratch_counts.proofs.Counts.{below_more}
 use Rattle.audit_packets.specs.Names.{most_names}

@@ -1,5 +1,4 @@
 use mathlib.Core.Path.{◌∙◌}
-use borrow.Author.Rules.{rules}
 use Rattle.machine.specs.Queue.{waiting}
 use Rattle.scratch_counts.proofs.Counts.{scratch_of}
 use Rattle.audit_packets.proofs.NamesInScratch.{matched_counted, names_past}

@@ -1,6 +1,5 @@
 use mathlib.Core.Bool.{not}
 use mathlib.Core.Path.{sym, ap, ◌∙◌}
-use borrow.Author.Rules.{rules}
 use Rattle.machine.specs.Queue.{Packet}
 use Rattle.audit_packets.specs.Packets.{packet_on, word_replays, packet_replays}
 use Rattle.audit_cells.proofs.Tests.{passed, failed, first_fails, second_fails, third_decides}

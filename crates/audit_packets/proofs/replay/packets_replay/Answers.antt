@@ -1,12 +1,7 @@
 use mathlib.Core.Bool.{not}
 use mathlib.Core.Path.{ap}
 use mathlib.Core.Path.{◌≡◌, sym, ◌∙◌}
-use mathlib.Core.Bool.{true}
-use Prim.Native.Nat.{◌-◌, ◌≤◌}
 use native.Mathlib.Omega.{arith}
-use borrow.Author.Rules.{rules}
-use Rattle.machine.specs.Range.{every}
-use Rattle.audit_packets.specs.Packets.{packet_replays}
 use Rattle.audit_packets.proofs.ReplayedCounts.{replay_exact}
 use Rattle.audit_cells.proofs.Tests.{passed, failed, every_none, every_more, every_fails}
 use Rattle.audit_packets.proofs.replay.packets_replay.Goals as goal

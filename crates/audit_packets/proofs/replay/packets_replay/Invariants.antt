@@ -1,12 +1,8 @@
-use mathlib.Core.Path.{◌≡◌, sym, ◌∙◌}
+use mathlib.Core.Path.{◌≡◌}
 use mathlib.Core.Bool.{true}
 use Prim.Native.Nat.{◌-◌, ◌≤◌}
-use native.Mathlib.Omega.{arith}
-use borrow.Author.Rules.{rules}
 use Rattle.machine.specs.Range.{every}
 use Rattle.audit_packets.specs.Packets.{packet_replays}
-use Rattle.audit_packets.proofs.ReplayedCounts.{replay_exact}
-use Rattle.audit_cells.proofs.Tests.{passed, failed, every_none, every_more, every_fails}
 use Rattle.audit_packets.proofs.replay.packets_replay.Given as goal
 
 abbrev pub invariant-loop-j : goal.invariant-loop-j

@@ -1,6 +1,5 @@
 use mathlib.Core.Bool.{not}
 use mathlib.Core.Path.{sym, ap, ◌∙◌}
-use borrow.Author.Rules.{rules}
 use Rattle.machine.specs.Packets.{uses}
 use Rattle.machine.specs.Queue.{Packet}
 use Rattle.audit_cells.proofs.Tests.{passed, failed}

@@ -1,7 +1,6 @@
 use mathlib.Core.Path.{ap}
-use mathlib.Core.Logic.{inl, inr, ⊎_elim}
+use mathlib.Core.Logic.{⊎_elim}
 use native.Mathlib.Omega.{arith}
-use borrow.Author.Rules.{rules}
 use Rattle.machine.specs.Packets.{reads, makes, replaces, raises, lowers, unknown, kind_of, uses_of}
 use Rattle.machine.specs.Table.{left, right}
 use Rattle.queue.proofs.Totals.{kind_unknown}
@@ -47,8 +46,7 @@ returns-in-5 c =
 pub returns-in_default : goal.returns-in_default
 unfolding uses_of
 returns-in_default c =
-    let r = c.in_default.in_default-own.rest in
     let i = c.args in
     let u = uses_by (packet_of i.p) i.x unknown
-    (kind_unknown i.p.kind r.0.0.0.0.1 r.0.0.0.1 (λ e. r.0.0.1 (inl e)) r.0.1 r.1 (λ e. r.0.0.1 (inr e))) in
+    (kind_unknown i.p.kind (λ e. grind arith) (λ e. grind arith) (λ e. grind arith) (λ e. grind arith) (λ e. grind arith) (λ e. grind arith)) in
     (u, omega arith)

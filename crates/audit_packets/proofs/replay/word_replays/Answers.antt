@@ -2,7 +2,6 @@ use mathlib.Core.Bool.{not}
 use mathlib.Core.Path.{ap}
 use mathlib.Core.Path.{sym}
 use native.Mathlib.Omega.{arith}
-use borrow.Author.Rules.{rules}
 use Rattle.machine.specs.Table.{capacity}
 use Rattle.machine.proofs.Words.{cell_number_lem, cell_index}
 use Rattle.audit_packets.proofs.ReplayedCounts.{no_cell_replays, cell_replays}

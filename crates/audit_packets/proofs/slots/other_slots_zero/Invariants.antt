@@ -1,13 +1,9 @@
-use mathlib.Core.Path.{◌≡◌, refl, sym}
+use mathlib.Core.Path.{◌≡◌}
 use mathlib.Core.Bool.{true}
 use Prim.Native.Nat.{◌-◌, ◌≤◌}
-use native.Mathlib.Omega.{arith}
-use borrow.Author.Rules.{rules}
-use Rattle.machine.specs.Audit.{other_slots_zero}
 use Rattle.machine.specs.Queue.{slots}
 use Rattle.machine.specs.Range.{every}
 use Rattle.audit_packets.specs.Packets.{rest_zero}
-use Rattle.audit_cells.proofs.Tests.{passed, failed, every_none, every_more, every_fails}
 use Rattle.audit_packets.proofs.slots.other_slots_zero.Given as goal
 
 abbrev pub invariant-loop-j : goal.invariant-loop-j

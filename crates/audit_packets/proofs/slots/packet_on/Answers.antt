@@ -1,5 +1,4 @@
 use mathlib.Core.Path.{ap, ◌∙◌}
-use borrow.Author.Rules.{rules}
 use Rattle.machine.specs.Queue.{slot}
 use Rattle.audit_packets.specs.Packets.{packet_on}
 use Rattle.audit_packets.proofs.slots.packet_on.Goals as goal

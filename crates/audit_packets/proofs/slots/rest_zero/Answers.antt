@@ -1,5 +1,4 @@
 use mathlib.Core.Path.{ap, ◌∙◌}
-use borrow.Author.Rules.{rules}
 use Rattle.machine.specs.Audit.{is_zero_packet}
 use Rattle.audit_packets.proofs.LegalPackets.{rest_slot}
 use Rattle.audit_packets.proofs.slots.rest_zero.Goals as goal
