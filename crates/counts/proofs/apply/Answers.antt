@@ -1,6 +1,5 @@
 use mathlib.Core.Logic.{inl, inr, ⊎_elim}
 use mathlib.Core.Path.{ap}
-use borrow.Author.Rules.{rules}
 use Rattle.queue.proofs.Totals.{kind_unknown}
 use Rattle.machine.specs.Packets.{reads, makes, replaces, raises, lowers, unknown, kind_of, changes_of}
 use Rattle.machine.specs.Table.{left, right}

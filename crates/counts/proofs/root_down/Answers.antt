@@ -1,7 +1,6 @@
 use mathlib.Core.Path.{refl, ap, ◌∙◌}
 use Prim.Native.Nat.{◌-◌}
 use native.Mathlib.Omega.{arith}
-use borrow.Author.Rules.{rules}
 use Rattle.machine.specs.Packets.{root}
 use Rattle.counts.proofs.Changes.{moves_lowered, moves_none}
 use Rattle.counts.proofs.Cells.{told, bounds}

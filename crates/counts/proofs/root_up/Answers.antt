@@ -1,6 +1,5 @@
 use mathlib.Core.Path.{refl}
 use native.Mathlib.Omega.{arith}
-use borrow.Author.Rules.{rules}
 use Rattle.machine.specs.Packets.{root}
 use Rattle.counts.proofs.Changes.{moves_raised, moves_none}
 use Rattle.counts.proofs.Cells.{told, bounds}

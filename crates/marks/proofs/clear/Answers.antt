@@ -1,10 +1,7 @@
 use mathlib.Core.Path.{◌≡◌, refl}
-use Prim.Native.Nat.{◌-◌, ◌≤◌}
 use native.Mathlib.Omega.{arith}
-use lib.ListN.{length, length-set}
-use borrow.Author.Rules.{rules}
+use lib.ListN.{length-set}
 use Rattle.machine.specs.Table.{scratch_words}
-use Rattle.machine.specs.Step.{cleared}
 use Rattle.machine.proofs.Scratch.{cleared_none, cleared_more}
 use Rattle.marks.proofs.clear.Goals as goal
 

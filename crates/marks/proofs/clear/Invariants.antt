@@ -1,11 +1,7 @@
-use mathlib.Core.Path.{◌≡◌, refl}
+use mathlib.Core.Path.{◌≡◌}
 use Prim.Native.Nat.{◌-◌, ◌≤◌}
-use native.Mathlib.Omega.{arith}
-use lib.ListN.{length, length-set}
-use borrow.Author.Rules.{rules}
-use Rattle.machine.specs.Table.{scratch_words}
+use lib.ListN.{length}
 use Rattle.machine.specs.Step.{cleared}
-use Rattle.machine.proofs.Scratch.{cleared_none, cleared_more}
 use Rattle.marks.proofs.clear.Given as goal
 
 abbrev pub invariant-loop-i : goal.invariant-loop-i

@@ -1,6 +1,5 @@
 use mathlib.Core.Path.{ap}
 use native.Mathlib.Omega.{arith}
-use borrow.Author.Rules.{rules}
 use Rattle.marks.specs.Stack.{stack}
 use Rattle.marks.proofs.Loops.{fits, made_ready, ready_followable, marked}
 use Rattle.marks.proofs.mark.Goals as goal

@@ -1,4 +1,3 @@
-use borrow.Author.Rules.{rules}
 use Rattle.questions.proofs.Rules.{chain}
 use Rattle.machine.specs.Questions.{cells_in_range}
 use Rattle.questions.proofs.cells_in_range.Goals as goal

@@ -3,7 +3,6 @@ use Prim.Native.Nat.{ℕ}
 use native.Mathlib.Omega.{arith}
 use lib.Dec.{leb}
 use lib.ListN.{length}
-use borrow.Author.Rules.{rules}
 use Rattle.machine.specs.Table.{table_length}
 use Rattle.machine.specs.Queue.{placed}
 use Rattle.machine.proofs.Questions.{not_in_range, in_range_length}

@@ -1,4 +1,3 @@
-use borrow.Author.Rules.{rules}
 use Rattle.questions.proofs.Rules.{chain}
 use Rattle.machine.specs.Words.{is_cell}
 use Rattle.questions.proofs.is_cell.Goals as goal

@@ -1,6 +1,5 @@
 use mathlib.Core.Path.{sym, ◌∙◌}
 use native.Mathlib.Omega.{arith}
-use borrow.Author.Rules.{rules}
 use Rattle.machine.specs.Queue.{empty_queue}
 use Rattle.machine.proofs.Questions.{shape_is, step_asked_1, step_asked_2, step_asked}
 use Rattle.questions.proofs.lent.Goals as goal

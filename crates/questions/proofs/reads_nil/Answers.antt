@@ -1,7 +1,6 @@
 use Rattle.machine.specs.Words.{is_nil}
 use Rattle.machine.specs.Calls.{reads_nil}
 use Rattle.questions.proofs.Words.{no_read}
-use borrow.Author.Rules.{rules}
 use Rattle.questions.proofs.reads_nil.Goals as goal
 
 pub returns-in-Car : goal.returns-in-Car

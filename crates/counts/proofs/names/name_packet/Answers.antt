@@ -1,4 +1,3 @@
-use borrow.Author.Rules.{rules}
 use Rattle.machine.specs.Packets.{kind_of, plus}
 use Rattle.counts.proofs.Naming.{named_three, packet_named}
 use Rattle.counts.proofs.names.name_packet.Goals as goal

@@ -1,4 +1,3 @@
-use borrow.Author.Rules.{rules}
 use Rattle.machine.specs.Packets.{kind_of, minus}
 use Rattle.counts.proofs.Naming.{named_three, packet_unnamed}
 use Rattle.counts.proofs.names.unname_packet.Goals as goal

@@ -1,13 +1,7 @@
-use mathlib.Core.Path.{◌≡◌, refl, ◌∙◌}
+use mathlib.Core.Path.{refl, ◌∙◌}
 use native.Mathlib.Omega.{arith}
-use lib.ListN.{length, drop}
-use borrow.Author.Rules.{rules}
-use Rattle.machine.specs.Table.{scratch_words}
-use Rattle.marks.specs.Marks.{is_marked}
-use Rattle.marks.specs.Stack.{stack}
 use Rattle.marks.proofs.Loops.{to_visit, still_following, less_work, same_past}
-use Rattle.marks.proofs.Closure.{Following, following_start, followed_all}
-use Rattle.marks.proofs.Stack.{work}
+use Rattle.marks.proofs.Closure.{following_start, followed_all}
 use Rattle.marks.proofs.pending.follow.Goals as goal
 
 pub loop-top-init : goal.loop-top-init

@@ -1,6 +1,5 @@
 use mathlib.Core.Path.{sym, ◌∙◌}
 use native.Mathlib.Omega.{arith}
-use borrow.Author.Rules.{rules}
 use Rattle.marks.proofs.Loops.{push_new, push_met, push_none}
 use Rattle.counts.proofs.Cells.{bounds}
 use Rattle.marks.proofs.Scratch.{word_within_lem}

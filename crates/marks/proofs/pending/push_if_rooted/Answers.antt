@@ -1,6 +1,5 @@
 use mathlib.Core.Path.{sym, ◌∙◌}
 use native.Mathlib.Omega.{arith}
-use borrow.Author.Rules.{rules}
 use Rattle.marks.proofs.Loops.{if_rooted, unrooted}
 use Rattle.marks.proofs.pending.push_if_rooted.Goals as goal
 

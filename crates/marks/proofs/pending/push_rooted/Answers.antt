@@ -1,9 +1,6 @@
 use mathlib.Core.Path.{◌≡◌, refl}
-use Prim.Native.Nat.{◌-◌, ◌≤◌}
 use native.Mathlib.Omega.{arith}
-use lib.ListN.{length}
-use borrow.Author.Rules.{rules}
-use Rattle.marks.specs.Stack.{stack, pushed_rooted, Pushes}
+use Rattle.marks.specs.Stack.{stack}
 use Rattle.marks.proofs.Loops.{rooted_none, rooted_more}
 use Rattle.marks.proofs.pending.push_rooted.Goals as goal
 

@@ -1,10 +1,7 @@
-use mathlib.Core.Path.{◌≡◌, refl}
+use mathlib.Core.Path.{◌≡◌}
 use Prim.Native.Nat.{◌-◌, ◌≤◌}
-use native.Mathlib.Omega.{arith}
 use lib.ListN.{length}
-use borrow.Author.Rules.{rules}
 use Rattle.marks.specs.Stack.{stack, pushed_rooted, Pushes}
-use Rattle.marks.proofs.Loops.{rooted_none, rooted_more}
 use Rattle.marks.proofs.pending.push_rooted.Given as goal
 
 abbrev pub invariant-loop-i : goal.invariant-loop-i

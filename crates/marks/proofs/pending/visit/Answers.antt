@@ -1,6 +1,5 @@
 use native.Mathlib.Omega.{arith}
 use lib.ListN.{length-set}
-use borrow.Author.Rules.{rules}
 use Rattle.marks.proofs.Scratch.{word_within_lem}
 use Rattle.marks.proofs.Loops.{visit_is}
 use Rattle.marks.proofs.pending.visit.Goals as goal

@@ -1,7 +1,6 @@
 use mathlib.Core.Path.{ap, ◌∙◌}
 use native.Mathlib.Omega.{arith}
 use lib.Dec.{ltb}
-use borrow.Author.Rules.{rules}
 use Rattle.marks.proofs.RootTests.{root_counted, root_named}
 use Rattle.marks.proofs.roots.rooted.Goals as goal
 

@@ -1,6 +1,5 @@
 use mathlib.Core.Path.{◌∙◌}
 use native.Mathlib.Omega.{arith}
-use borrow.Author.Rules.{rules}
 use Rattle.counts.proofs.Cells.{told, bounds}
 use Rattle.marks.proofs.RootTests.{stays_none, stays_rooted}
 use Rattle.marks.proofs.roots.stays_root.Goals as goal
