@@ -2,7 +2,6 @@ use mathlib.Core.Path.{refl, sym, ◌∙◌}
 use Prim.Native.Nat.{◌-◌, ◌<◌}
 use native.Mathlib.Omega.{arith}
 use lib.ListN.{length}
-use borrow.Author.Rules.{rules}
 use Rattle.marks.proofs.Scratch.{word_within_lem}
 use Rattle.scratch_counts.proofs.Counts.{cell_bounds, up_none, up_here}
 use Rattle.scratch_counts.proofs.raise.Goals as goal

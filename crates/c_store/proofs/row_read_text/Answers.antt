@@ -1,0 +1,8 @@
+use borrow.Author.Rules.{rules}
+use Rattle.c_store.proofs.ToldLaws.{saved_told}
+use Rattle.c_store.proofs.row_read_text.Goals as goal
+
+pub returns : goal.returns
+returns c =
+    let load = c.load-before.ensures in
+    saved_told c.args.queue.now c.save.new.words load c.read_text-done.ensures c.save.ensures c.row_told.ensures
