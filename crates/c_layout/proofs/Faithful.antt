@@ -1,13 +1,13 @@
 -- A reply is read back from its numbers, and each of the 258 words from the queue.
 use mathlib.Core.Path.{◌≡◌, refl, sym, ap, ◌∙◌}
 use mathlib.Core.Logic.{⊎_elim}
-use mathlib.Core.Bool.{true, false, cond}
+use mathlib.Core.Bool.{true, false}
 use mathlib.Core.List.{List}
 use mathlib.Core.Option.{some, some-injective}
-use Prim.Native.Nat.{ℕ, zero, suc, ◌+◌, ◌*◌, ◌/◌, ◌%◌, ◌<◌, ◌≤◌}
+use Prim.Native.Nat.{ℕ, zero, suc, ◌+◌, ◌/◌, ◌%◌, ◌<◌, ◌≤◌}
 use native.Mathlib.Omega.{arith}
 use lib.Dec.{eqb, ltb}
-use lib.ListN.{length, take, drop, get_or, replicate}
+use lib.ListN.{drop, get_or}
 use lib.Seq.{ext_get_or, get_or-take, get_or-drop}
 use borrow.Author.Tests.{ltb-true, ltb-false, eqb-true, eqb-false}
 use Rattle.machine.specs.declared.Queue.{Queue}
@@ -15,7 +15,6 @@ use Rattle.machine.specs.Queue.{slots}
 use Rattle.machine.specs.Calls as machine
 use Rattle.machine.specs.Calls.{value, refused, idle, applied, sound, broken, text}
 use Rattle.machine.proofs.Range.{tested}
-use Rattle.c_layout.specs.declared.Reply.{Reply}
 use Rattle.c_layout.specs.Queues.{array_at, array_in, place_at, count_at, queue_words, queue_in}
 use Rattle.c_layout.specs.Replies.{told, said}
 use Rattle.c_layout.specs.Faithful.{length_only, Faithful}

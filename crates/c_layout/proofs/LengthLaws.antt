@@ -2,7 +2,6 @@
 use mathlib.Core.Path.{◌≡◌}
 use Prim.Native.Nat.{ℕ}
 use Rattle.machine.specs.declared.Refusal.{Refusal}
-use Rattle.machine.specs.declared.LengthAnswer
 use Rattle.machine.specs.declared.LengthAnswer.{LengthAnswer}
 use Rattle.machine.specs.Calls as machine
 use Rattle.machine.specs.Calls.{refused}

@@ -1,12 +1,12 @@
 -- The queue's words, array by array.
-use mathlib.Core.Path.{◌≡◌, refl, sym, ap, ◌∙◌}
+use mathlib.Core.Path.{◌≡◌, sym, ap, ◌∙◌}
 use mathlib.Core.List.{List, [], ◌∷◌, ◌++◌, append_assoc}
-use Prim.Native.Nat.{ℕ, zero, suc, ◌+◌, ◌*◌, ◌≤◌, ◌<◌}
+use Prim.Native.Nat.{ℕ, zero, suc, ◌+◌, ◌≤◌, ◌<◌}
 use native.Mathlib.Nat.{zero-add, suc-add}
 use native.Mathlib.Numerals.{add-one}
 use native.Mathlib.Omega.{arith}
 use lib.ListN.{length, take, drop, get_or, set, length-drop, length-set}
-use lib.Seq.{take_all, take-suc, take-suc-set, length-take-le, get_or-drop, get_or-set_same, get_or-set_other, take-set-le, take-take, take_at, drop_at, take-nil, paste}
+use lib.Seq.{take_all, take-suc, take-suc-set, length-take-le, get_or-drop, get_or-set_same, get_or-set_other, take-set-le, take-take, take_at, drop_at, take-nil}
 use Rattle.machine.specs.declared.Queue.{Queue}
 use Rattle.machine.specs.Queue.{slots, Arrays}
 use Rattle.c_layout.specs.Queues.{array_at, array_in, place_at, count_at, queue_words, queue_in, ArrayPut}

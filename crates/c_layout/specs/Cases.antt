@@ -3,7 +3,6 @@
 use Rattle.std.specs.Prelude.{◌≡◌, List, [], ◌∷◌, ℕ, zero, suc}
 use Rattle.machine.specs.Calls as machine
 use Rattle.machine.specs.Calls.{value, refused, idle, applied, sound, broken, text}
-use Rattle.c_layout.specs.declared.Reply.{Reply}
 use Rattle.c_layout.specs.Queues.{queue_words, queue_in}
 use Rattle.c_layout.specs.Replies.{told}
 

@@ -3,16 +3,13 @@ use mathlib.Core.Path.{◌≡◌, refl, sym, ◌∙◌}
 use mathlib.Core.List.{List, [], ◌∷◌, ◌++◌}
 use Prim.Native.Nat.{ℕ, ◌≤◌}
 use native.Mathlib.Omega.{arith}
-use Rattle.base_ten.specs.declared.Number
 use Rattle.base_ten.specs.declared.Number.{Number}
 use Rattle.base_ten.specs.Bytes.{ascii, space, same_bytes, split, words_of}
 use Rattle.base_ten.specs.Numbers.{number_of}
 use Rattle.base_ten.specs.Decimal.{most_digits, decimal}
 use Rattle.base_ten.proofs.WordLaws.{split_all}
 use Rattle.base_ten.proofs.DecimalRead.{decimal_read}
-use Rattle.machine.specs.declared.RowCall
 use Rattle.machine.specs.declared.RowCall.{RowCall}
-use Rattle.line_text.specs.declared.Request
 use Rattle.line_text.specs.declared.Request.{Request}
 use Rattle.line_text.specs.Requests.{most_operand, with_none, with_one, with_two, by_words}
 use Rattle.line_text.proofs.RequestLaws.{line_short}

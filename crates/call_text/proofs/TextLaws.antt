@@ -1,18 +1,16 @@
 -- How long a call's line is, and what bytes it has not.
-use mathlib.Core.Path.{◌≡◌, refl, sym, ap, ◌∙◌}
+use mathlib.Core.Path.{◌≡◌, refl, ap}
 use mathlib.Core.Bool.{Bool, true, false, cond}
 use mathlib.Core.List.{List, [], ◌∷◌, ◌++◌}
 use Prim.Native.Nat.{ℕ, zero, suc, ◌+◌, ◌/◌, ◌%◌, ◌≤◌, ◌<◌}
 use native.Mathlib.Omega.{arith}
 use lib.Dec.{ltb, eqb}
 use lib.ListN.{length, length-append}
-use borrow.Author.Tests.{eq-eqb, ne_eqb, ltb-true, ltb-false}
+use borrow.Author.Tests.{eq-eqb, ne_eqb}
 use Rattle.base_ten.specs.Bytes.{digit_zero, ascii, line_feed, space, before, on_first, split}
 use Rattle.base_ten.specs.Decimal.{digits, most_digits, decimal}
 use Rattle.base_ten.proofs.PutLaws.{digits_length}
-use Rattle.machine.specs.declared.RowCall
 use Rattle.machine.specs.declared.RowCall.{RowCall}
-use Rattle.line_text.specs.declared.Request
 use Rattle.line_text.specs.declared.Request.{Request}
 use Rattle.call_text.specs.CallText.{one_text, two_text, row_text, call_text, call_line, word_room, call_room, line_room}
 

@@ -2,9 +2,7 @@
 use Rattle.std.specs.Prelude.{List, [], ◌∷◌, ◌++◌, ℕ, ◌+◌}
 use Rattle.base_ten.specs.Bytes.{ascii, line_feed, space}
 use Rattle.base_ten.specs.Decimal.{most_digits, decimal}
-use Rattle.machine.specs.declared.RowCall
 use Rattle.machine.specs.declared.RowCall.{RowCall}
-use Rattle.line_text.specs.declared.Request
 use Rattle.line_text.specs.declared.Request.{Request}
 
 -- a keyword with its space, then an operand

@@ -1,8 +1,6 @@
 -- The line of a call is read as that call. The proof is `reads_back` in proofs/ReadsBack.
-use Rattle.std.specs.Prelude.{◌≡◌, ℕ, ◌≤◌}
-use Rattle.machine.specs.declared.RowCall
+use Rattle.std.specs.Prelude.{◌≡◌, ◌≤◌}
 use Rattle.machine.specs.declared.RowCall.{RowCall}
-use Rattle.line_text.specs.declared.Request
 use Rattle.line_text.specs.declared.Request.{Request}
 use Rattle.line_text.specs.Requests.{most_operand, request_of}
 use Rattle.call_text.specs.CallText.{call_text}

@@ -10,9 +10,7 @@ use lib.ListN.{length, set}
 use borrow.Author.Tests.{eq-eqb, ne_eqb, leb-true}
 use Rattle.machine.specs.declared.Queue.{Queue}
 use Rattle.machine.specs.declared.FreshAnswer.{FreshAnswer}
-use Rattle.machine.specs.declared.FreshAnswer
 use Rattle.machine.specs.declared.Refusal.{Refusal}
-use Rattle.machine.specs.declared.Refusal
 use Rattle.machine.specs.Words.{most_cells}
 use Rattle.machine.specs.Table.{free_cell, table_length, put_ends, put_cell}
 use Rattle.machine.specs.Queue.{empty_queue}

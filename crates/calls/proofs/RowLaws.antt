@@ -6,11 +6,8 @@ use mathlib.Core.List.{List, [], ◌∷◌, ◌++◌}
 use Prim.Native.Nat.{ℕ, zero, suc, ◌+◌, ◌%◌}
 use native.Mathlib.Omega.{arith}
 use Rattle.machine.specs.declared.Queue.{Queue}
-use Rattle.machine.specs.declared.RowAnswer
 use Rattle.machine.specs.declared.RowAnswer.{RowAnswer}
-use Rattle.machine.specs.declared.Asked
 use Rattle.machine.specs.declared.Asked.{Asked}
-use Rattle.machine.specs.declared.Refusal
 use Rattle.machine.specs.declared.Refusal.{Refusal}
 use Rattle.machine.specs.Queue.{Packet, slots, put_slot, appended}
 use Rattle.machine.specs.Words.{is_nil}

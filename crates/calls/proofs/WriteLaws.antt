@@ -1,7 +1,7 @@
 -- What a row call writes, word by word, is what the machine has it write.
 use mathlib.Core.Path.{◌≡◌, refl, ap, ap₂, ◌∙◌}
 use mathlib.Core.Bool.{cond}
-use mathlib.Core.List.{List, [], ◌∷◌}
+use mathlib.Core.List.{List}
 use Prim.Native.Nat.{ℕ, pred, ◌-◌}
 use native.Mathlib.Omega.{arith}
 use lib.Dec.{eqb}

@@ -13,7 +13,6 @@ use Rattle.base_ten.specs.Bytes.{digit_zero}
 use Rattle.base_ten.specs.Decimal.{digits, most_digits, decimal}
 use Rattle.base_ten.specs.Put.{Put}
 use Rattle.base_ten.proofs.PutLaws.{digits_one, digits_more, digits_length, digits_some}
-use Rattle.line_text.specs.declared.Verdict
 use Rattle.line_text.specs.declared.Verdict.{Verdict}
 use Rattle.line_text.specs.Texts.{verdict_room, verdict_text, room, output_line}
 use Rattle.line_text.specs.Put.{ShowsTens, CountsUp}

@@ -1,12 +1,9 @@
 -- What a line asks for: a call with its operands, or nothing that the session knows.
 use Rattle.std.specs.Prelude.{cond, List, [], ◌∷◌, ℕ, leb, length}
-use Rattle.base_ten.specs.declared.Number
 use Rattle.base_ten.specs.declared.Number.{Number}
 use Rattle.base_ten.specs.Bytes.{ascii, same_bytes, words_of}
 use Rattle.base_ten.specs.Numbers.{number_of}
-use Rattle.machine.specs.declared.RowCall
 use Rattle.machine.specs.declared.RowCall.{RowCall}
-use Rattle.line_text.specs.declared.Request
 use Rattle.line_text.specs.declared.Request.{Request}
 
 -- the largest operand

@@ -2,7 +2,6 @@
 use Rattle.std.specs.Prelude.{List, [], ◌∷◌, ◌++◌, ℕ, ◌+◌}
 use Rattle.base_ten.specs.Bytes.{ascii, line_feed, space}
 use Rattle.base_ten.specs.Decimal.{most_digits, decimal}
-use Rattle.line_text.specs.declared.Verdict
 use Rattle.line_text.specs.declared.Verdict.{Verdict}
 
 -- OK or NO and a space, before a number

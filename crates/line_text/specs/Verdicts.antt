@@ -1,6 +1,5 @@
 -- What an output line says of a reply.
 use Rattle.machine.specs.Calls.{Reply, value, refused, idle, applied, sound, broken, text}
-use Rattle.line_text.specs.declared.Verdict
 use Rattle.line_text.specs.declared.Verdict.{Verdict}
 
 -- the value of a step is the cells freed; a session has no audits and no texts

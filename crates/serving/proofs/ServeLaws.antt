@@ -1,6 +1,6 @@
 -- A call that keeps the promise serves its request, on a store without a fresh and on a sound one.
 use mathlib.Core.Path.{◌≡◌, refl, sym, ap, ◌∙◌}
-use mathlib.Core.Logic.{◌⊎◌, inl, inr, ⊎_elim}
+use mathlib.Core.Logic.{inl, inr, ⊎_elim}
 use mathlib.Core.Bool.{false}
 use mathlib.Core.List.{List, []}
 use Prim.Native.Nat.{ℕ, zero, suc}
@@ -9,7 +9,7 @@ use Rattle.machine.specs.declared.Queue.{Queue}
 use Rattle.machine.specs.declared.RowCall as declared
 use Rattle.machine.specs.Words.{most_cells}
 use Rattle.machine.specs.Table.{capacity}
-use Rattle.machine.specs.Calls.{Call, fresh, row, step, audit, read, write, RowCall, Reply, refused, Store, store}
+use Rattle.machine.specs.Calls.{Call, fresh, row, step, audit, read, write, RowCall, Reply, Store, store}
 use Rattle.machine.specs.Answers.{call_of}
 use Rattle.machine.specs.Step.{Outcome, outcome}
 use Rattle.machine.specs.Questions.{first_no, in_range, early, late, questions}
@@ -18,9 +18,7 @@ use Rattle.machine.specs.Promise.{Promise}
 use Rattle.machine.proofs.Kept.{machine_refused, machine_accepted, gives_machine}
 use Rattle.soundness.specs.Whole.{Whole}
 use Rattle.soundness.proofs.CallSound.{fresh_whole, decided, promise_whole}
-use Rattle.line_text.specs.declared.Request
 use Rattle.line_text.specs.declared.Request.{Request}
-use Rattle.line_text.specs.declared.Verdict
 use Rattle.line_text.specs.declared.Verdict.{Verdict}
 use Rattle.line_text.specs.Verdicts.{verdict_of}
 use Rattle.serving.specs.Serving.{called, served, unmade, Good}

@@ -7,9 +7,7 @@ use Rattle.machine.specs.Calls.{Call, fresh, row, step, Store, store}
 use Rattle.machine.specs.Answers.{call_of}
 use Rattle.machine.specs.Machine.{machine}
 use Rattle.soundness.specs.Whole.{Whole}
-use Rattle.line_text.specs.declared.Request
 use Rattle.line_text.specs.declared.Request.{Request}
-use Rattle.line_text.specs.declared.Verdict
 use Rattle.line_text.specs.declared.Verdict.{Verdict}
 use Rattle.line_text.specs.Verdicts.{verdict_of}
 

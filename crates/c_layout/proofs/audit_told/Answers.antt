@@ -1,4 +1,3 @@
-use borrow.Author.Rules.{rules}
 use Rattle.c_layout.proofs.audit_told.Goals as goal
 
 pub returns-in-Sound : goal.returns-in-Sound

@@ -1,4 +1,3 @@
-use borrow.Author.Rules.{rules}
 use Rattle.c_layout.proofs.fresh_told.Goals as goal
 
 pub returns-in-Done : goal.returns-in-Done

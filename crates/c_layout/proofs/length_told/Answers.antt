@@ -1,5 +1,4 @@
 use mathlib.Core.Path.{◌∙◌}
-use borrow.Author.Rules.{rules}
 use Rattle.c_layout.proofs.LengthLaws.{length_told, refusal_told}
 use Rattle.c_layout.proofs.length_told.Goals as goal
 

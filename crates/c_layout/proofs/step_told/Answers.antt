@@ -1,4 +1,3 @@
-use borrow.Author.Rules.{rules}
 use Rattle.c_layout.proofs.step_told.Goals as goal
 
 pub returns-in-Idle : goal.returns-in-Idle

@@ -1,4 +1,3 @@
-use borrow.Author.Rules.{rules}
 use Rattle.base_ten.proofs.PutLaws.{put_none}
 use Rattle.call_text.specs.CallText.{call_text}
 use Rattle.call_text.proofs.put_call.Goals as goal

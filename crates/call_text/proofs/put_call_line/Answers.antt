@@ -1,5 +1,4 @@
 use native.Mathlib.Omega.{arith}
-use borrow.Author.Rules.{rules}
 use Rattle.base_ten.proofs.PutLaws.{put_both_lem}
 use Rattle.call_text.specs.CallText.{call_line}
 use Rattle.call_text.proofs.TextLaws.{call_length}

@@ -1,4 +1,3 @@
-use borrow.Author.Rules.{rules}
 use Rattle.call_text.specs.CallText.{row_text}
 use Rattle.call_text.proofs.put_row.Goals as goal
 

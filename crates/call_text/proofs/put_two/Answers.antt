@@ -1,6 +1,5 @@
 use native.Mathlib.Omega.{arith}
 use lib.ListN.{length-append}
-use borrow.Author.Rules.{rules}
 use Rattle.base_ten.specs.Decimal.{most_digits, decimal}
 use Rattle.base_ten.proofs.PutLaws.{put_both_lem, digits_length}
 use Rattle.call_text.proofs.put_two.Goals as goal

@@ -1,4 +1,3 @@
-use borrow.Author.Rules.{rules}
 use Rattle.calls.proofs.answer_of.Goals as goal
 
 pub returns-in-Yes : goal.returns-in-Yes

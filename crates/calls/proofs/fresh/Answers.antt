@@ -1,6 +1,5 @@
 use mathlib.Core.Bool.{not}
 use mathlib.Core.Path.{ap}
-use borrow.Author.Rules.{rules}
 use Rattle.calls.proofs.EarlyLaws.{yes, no}
 use Rattle.calls.proofs.FreshLaws.{cells_are, words_are, fresh_number, fresh_short, fresh_done}
 use Rattle.calls.proofs.fresh.Goals as goal

@@ -1,6 +1,5 @@
 use mathlib.Core.Path.{sym, ◌∙◌}
 use Rattle.calls.proofs.RowLaws.{nil_refused, nil_done}
-use borrow.Author.Rules.{rules}
 use Rattle.calls.proofs.nil_read.Goals as goal
 
 pub returns-then-in_range : goal.returns-then-in_range

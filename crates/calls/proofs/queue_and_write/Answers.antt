@@ -2,10 +2,8 @@ use mathlib.Core.Path.{ap₂, ◌∙◌}
 use Rattle.machine.specs.Answers.{call_of}
 use Rattle.queue.specs.Sums.{packet_of}
 use Rattle.counts.specs.Changes.{named_fitting}
-use Rattle.calls.specs.Called.{RowAsked}
 use Rattle.calls.proofs.CallLaws.{early_shape, passed_operands, passed_room, writable}
 use Rattle.calls.proofs.RowLaws.{done_yes, done_called, refused_called}
-use borrow.Author.Rules.{rules}
 use Rattle.calls.proofs.queue_and_write.Goals as goal
 
 pub queued-reply-requires : goal.queued-reply-requires

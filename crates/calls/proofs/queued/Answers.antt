@@ -1,8 +1,6 @@
-use mathlib.Core.Logic.{⊎_elim}
 use Rattle.machine.specs.Queue.{put_slot}
 use Rattle.queue.specs.Sums.{packet_of}
 use Rattle.calls.proofs.RowLaws.{queued_refused, queued_done, appended_at}
-use borrow.Author.Rules.{rules}
 use Rattle.calls.proofs.queued.Goals as goal
 use Rattle.calls.proofs.queued.Goals.{in-Yes, in_default}
 

@@ -1,15 +1,8 @@
-use mathlib.Core.Path.{◌≡◌, sym, ◌∙◌}
-use mathlib.Core.Bool.{false}
-use mathlib.Core.List.{[]}
-use Rattle.machine.specs.declared.Asked
-use Rattle.machine.specs.declared.Asked.{Asked}
-use Rattle.machine.specs.Calls.{row, store, reads_nil}
-use Rattle.machine.specs.Questions.{first_no, early}
+use mathlib.Core.Path.{sym, ◌∙◌}
 use Rattle.machine.specs.Answers.{call_of}
 use Rattle.machine.proofs.Answers.{asked_yes}
 use Rattle.calls.proofs.CallLaws.{early_shape, early_operands}
 use Rattle.calls.proofs.RowLaws.{early_refused, nil_called, refused_called}
-use borrow.Author.Rules.{rules}
 use Rattle.calls.proofs.row.Goals as goal
 
 pub returns-then-reads_nil : goal.returns-then-reads_nil

@@ -1,4 +1,3 @@
-use borrow.Author.Rules.{rules}
 use Rattle.serving.proofs.row_verdict.Goals as goal
 
 pub returns-in-Done : goal.returns-in-Done

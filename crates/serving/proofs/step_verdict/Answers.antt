@@ -1,4 +1,3 @@
-use borrow.Author.Rules.{rules}
 use Rattle.serving.proofs.step_verdict.Goals as goal
 
 pub returns-in-Applied : goal.returns-in-Applied

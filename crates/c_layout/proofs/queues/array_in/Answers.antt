@@ -1,11 +1,8 @@
-use mathlib.Core.Path.{◌≡◌, refl}
-use Prim.Native.Nat.{◌-◌, ◌≤◌}
+use mathlib.Core.Path.{refl}
 use native.Mathlib.Omega.{arith}
-use lib.ListN.{length, take, drop, length-set}
-use Rattle.machine.specs.Queue.{slots}
+use lib.ListN.{length-set}
 use Rattle.c_layout.specs.Queues.{array_at}
 use Rattle.c_layout.proofs.QueueLaws.{read_more, read_all}
-use borrow.Author.Rules.{rules}
 use Rattle.c_layout.proofs.queues.array_in.Goals as goal
 
 pub loop-i-init : goal.loop-i-init

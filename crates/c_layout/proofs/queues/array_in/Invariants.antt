@@ -1,11 +1,8 @@
-use mathlib.Core.Path.{◌≡◌, refl}
+use mathlib.Core.Path.{◌≡◌}
 use Prim.Native.Nat.{◌-◌, ◌≤◌}
-use native.Mathlib.Omega.{arith}
-use lib.ListN.{length, take, drop, length-set}
+use lib.ListN.{length, take, drop}
 use Rattle.machine.specs.Queue.{slots}
 use Rattle.c_layout.specs.Queues.{array_at}
-use Rattle.c_layout.proofs.QueueLaws.{read_more, read_all}
-use borrow.Author.Rules.{rules}
 use Rattle.c_layout.proofs.queues.array_in.Given as goal
 
 abbrev pub invariant-loop-i : goal.invariant-loop-i

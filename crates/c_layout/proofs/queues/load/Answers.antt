@@ -1,4 +1,3 @@
-use borrow.Author.Rules.{rules}
 use Rattle.c_layout.proofs.queues.load.Goals as goal
 
 pub returns : goal.returns

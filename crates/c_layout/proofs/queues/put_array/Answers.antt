@@ -1,11 +1,9 @@
 use mathlib.Core.Path.{◌≡◌, ◌∙◌}
-use Prim.Native.Nat.{◌-◌, ◌≤◌}
 use native.Mathlib.Numerals.{add-one}
 use native.Mathlib.Omega.{arith}
 use lib.Seq.{paste, paste-zero, paste-suc, length-paste}
 use Rattle.machine.specs.Queue.{slots}
 use Rattle.c_layout.specs.Queues.{array_at}
-use borrow.Author.Rules.{rules}
 use Rattle.c_layout.proofs.queues.put_array.Goals as goal
 
 pub loop-i-init : goal.loop-i-init

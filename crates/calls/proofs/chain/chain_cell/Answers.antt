@@ -1,6 +1,5 @@
 use mathlib.Core.Path.{ap, ◌∙◌}
 use Prim.Native.Nat.{ℕ}
-use borrow.Author.Rules.{rules}
 use Rattle.machine.specs.Table.{free_cell, put_cell}
 use Rattle.calls.proofs.chain.chain_cell.Goals as goal
 

@@ -1,8 +1,5 @@
-use mathlib.Core.Path.{◌≡◌, refl, ◌∙◌}
-use Prim.Native.Nat.{◌-◌, ◌≤◌}
+use mathlib.Core.Path.{refl, ◌∙◌}
 use native.Mathlib.Omega.{arith}
-use lib.ListN.{length}
-use borrow.Author.Rules.{rules}
 use Rattle.machine.specs.Calls.{chained}
 use Rattle.calls.proofs.FreshLaws.{chain_more, chain_all}
 use Rattle.calls.proofs.chain.make_chain.Goals as goal

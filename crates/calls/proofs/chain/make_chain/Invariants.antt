@@ -1,10 +1,7 @@
-use mathlib.Core.Path.{◌≡◌, refl, ◌∙◌}
+use mathlib.Core.Path.{◌≡◌}
 use Prim.Native.Nat.{◌-◌, ◌≤◌}
-use native.Mathlib.Omega.{arith}
 use lib.ListN.{length}
-use borrow.Author.Rules.{rules}
 use Rattle.machine.specs.Calls.{chained}
-use Rattle.calls.proofs.FreshLaws.{chain_more, chain_all}
 use Rattle.calls.proofs.chain.make_chain.Given as goal
 
 abbrev pub invariant-loop-i : goal.invariant-loop-i

@@ -1,4 +1,3 @@
-use borrow.Author.Rules.{rules}
 use Rattle.calls.proofs.FreshLaws.{next_last, next_on}
 use Rattle.calls.proofs.chain.next_cell.Goals as goal
 

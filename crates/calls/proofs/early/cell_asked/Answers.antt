@@ -1,5 +1,4 @@
 use native.Mathlib.Omega.{arith}
-use borrow.Author.Rules.{rules}
 use Rattle.machine.specs.Queue.{placed, empty_queue}
 use Rattle.calls.proofs.EarlyLaws.{cellular, words_ready, words_first, cell_yes, cell_5}
 use Rattle.calls.proofs.early.cell_asked.Goals as goal

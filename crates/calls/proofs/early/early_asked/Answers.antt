@@ -1,7 +1,6 @@
 use Rattle.machine.specs.Queue.{placed}
 use Rattle.calls.proofs.EarlyLaws.{stored_behind}
 use Rattle.calls.proofs.CallLaws.{early_of}
-use borrow.Author.Rules.{rules}
 use Rattle.calls.proofs.early.early_asked.Goals as goal
 
 pub returns-in-Car : goal.returns-in-Car

@@ -1,9 +1,7 @@
 use mathlib.Core.Bool.{not}
-use mathlib.Core.Path.{◌≡◌, refl, ap}
-use Prim.Native.Nat.{ℕ}
-use borrow.Author.Rules.{rules}
+use mathlib.Core.Path.{refl, ap}
 use Rattle.machine.specs.Answers.{asked_number}
-use Rattle.calls.specs.Early.{first_of, stored_number}
+use Rattle.calls.specs.Early.{stored_number}
 use Rattle.calls.proofs.EarlyLaws.{yes, no, early_first, none_before, stored_x, stored_y, stored_0}
 use Rattle.calls.proofs.early.stored_asked.Goals as goal
 

@@ -1,13 +1,9 @@
 use mathlib.Core.Bool.{not}
 use mathlib.Core.Path.{ap}
-use mathlib.Core.Path.{◌≡◌, sym}
-use mathlib.Core.Bool.{true}
+use mathlib.Core.Path.{sym}
 use native.Mathlib.Omega.{arith}
 use borrow.Author.Tests.{not-true, not-false}
-use borrow.Author.Rules.{rules}
-use Rattle.machine.specs.declared.Queue.{Queue}
 use Rattle.machine.specs.Queue.{placed, empty_queue}
-use Rattle.machine.specs.Questions.{in_range, number_in_range}
 use Rattle.machine.proofs.Questions.{shape_is}
 use Rattle.calls.proofs.EarlyLaws.{yes, no, legal, words_1, words_3, words_x, words_y, words_0}
 use Rattle.calls.proofs.early.words_asked.Goals as goal

@@ -1,4 +1,3 @@
-use borrow.Author.Rules.{rules}
 use Rattle.machine.specs.Queue.{queue_of}
 use Rattle.calls.proofs.LateLaws.{cons_asked}
 use Rattle.calls.proofs.late.cons_late.Goals as goal

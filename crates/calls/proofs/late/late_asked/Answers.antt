@@ -2,7 +2,6 @@ use Rattle.machine.specs.Queue.{queue_of}
 use Rattle.machine.specs.Packets.{kind_of}
 use Rattle.calls.proofs.PacketLaws.{replaces_left}
 use Rattle.calls.proofs.LateLaws.{up_asked, down_asked}
-use borrow.Author.Rules.{rules}
 use Rattle.calls.proofs.late.late_asked.Goals as goal
 
 pub read_late-requires : goal.read_late-requires

@@ -1,4 +1,3 @@
-use borrow.Author.Rules.{rules}
 use Rattle.machine.specs.Queue.{queue_of}
 use Rattle.calls.proofs.LateLaws.{read_asked}
 use Rattle.calls.proofs.late.read_late.Goals as goal

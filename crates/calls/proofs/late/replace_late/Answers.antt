@@ -1,4 +1,3 @@
-use borrow.Author.Rules.{rules}
 use Rattle.machine.specs.Queue.{queue_of}
 use Rattle.calls.proofs.LateLaws.{replace_either}
 use Rattle.calls.proofs.late.replace_late.Goals as goal

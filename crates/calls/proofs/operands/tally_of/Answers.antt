@@ -1,12 +1,8 @@
-use mathlib.Core.Path.{◌≡◌}
-use mathlib.Core.Bool.{true}
 use mathlib.Core.List.{List}
 use Prim.Native.Nat.{ℕ}
 use native.Mathlib.Omega.{arith}
 use borrow.Author.Rules.{rules}
-use Rattle.machine.specs.Words.{is_cell}
-use Rattle.machine.specs.Table.{capacity}
-use Rattle.machine.specs.Queue.{Packet, queue_of, waiting}
+use Rattle.machine.specs.Queue.{queue_of, waiting}
 use Rattle.machine.specs.Packets.{root, cell}
 use Rattle.machine.proofs.Words.{cell_index, cell_number_lem}
 use Rattle.calls.proofs.EarlyLaws.{cellular}

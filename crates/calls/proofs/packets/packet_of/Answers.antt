@@ -2,7 +2,6 @@ use native.Mathlib.Omega.{arith}
 use Rattle.machine.specs.Packets.{kind_of}
 use Rattle.machine.specs.Calls.{packet_of}
 use Rattle.calls.proofs.PacketLaws.{operand}
-use borrow.Author.Rules.{rules}
 use Rattle.calls.proofs.packets.packet_of.Goals as goal
 
 pub field_of-requires : goal.field_of-requires

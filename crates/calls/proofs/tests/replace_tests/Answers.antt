@@ -1,6 +1,5 @@
 use mathlib.Core.Bool.{not}
 use mathlib.Core.Path.{ap}
-use borrow.Author.Rules.{rules}
 use Rattle.calls.proofs.EarlyLaws.{yes, no}
 use Rattle.calls.proofs.tests.replace_tests.Goals as goal
 

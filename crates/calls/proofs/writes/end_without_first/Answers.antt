@@ -1,5 +1,4 @@
 use borrow.Author.Tests.{ne_eqb}
-use borrow.Author.Rules.{rules}
 use Rattle.questions.proofs.Rules.{chain}
 use Rattle.calls.proofs.writes.end_without_first.Goals as goal
 

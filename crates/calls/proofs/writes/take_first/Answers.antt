@@ -1,4 +1,3 @@
-use borrow.Author.Rules.{rules}
 use Rattle.calls.proofs.WriteLaws.{taken_first}
 use Rattle.calls.proofs.writes.take_first.Goals as goal
 

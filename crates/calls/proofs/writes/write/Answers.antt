@@ -3,7 +3,6 @@ use Rattle.machine.specs.Calls.{written}
 use Rattle.machine.specs.Table.{left, right}
 use Rattle.calls.proofs.PacketLaws.{inside_field}
 use Rattle.calls.proofs.WriteLaws.{put_field, unwritten}
-use borrow.Author.Rules.{rules}
 use Rattle.calls.proofs.writes.write.Goals as goal
 
 pub take_first-requires : goal.take_first-requires

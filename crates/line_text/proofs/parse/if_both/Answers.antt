@@ -1,5 +1,4 @@
 use native.Mathlib.Omega.{arith}
-use borrow.Author.Rules.{rules}
 use Rattle.line_text.proofs.parse.if_both.Goals as goal
 
 pub overflow_cast-x : goal.overflow_cast-x

@@ -1,6 +1,5 @@
 use mathlib.Core.Path.{sym, ap, ◌∙◌}
 use native.Mathlib.Omega.{arith}
-use borrow.Author.Rules.{rules}
 use Rattle.line_text.specs.Requests.{if_one}
 use Rattle.line_text.proofs.parse.if_one.Goals as goal
 

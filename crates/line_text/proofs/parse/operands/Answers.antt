@@ -1,12 +1,8 @@
-use mathlib.Core.List.{List, ◌∷◌}
-use mathlib.Core.Path.{sym, ap, ◌∙◌}
-use Prim.Native.Nat.{ℕ}
+use mathlib.Core.Path.{sym, ◌∙◌}
 use native.Mathlib.Omega.{arith}
 use lib.Seq.{length-take-le}
-use borrow.Author.Rules.{rules}
-use Rattle.line_text.specs.Requests.{by_words}
 use Rattle.line_text.proofs.RequestLaws.{more_words}
-use Rattle.line_text.proofs.RequestLaws.{one_word, words_more}
+use Rattle.line_text.proofs.RequestLaws.{one_word}
 use Rattle.line_text.proofs.parse.operands.Goals as goal
 
 pub returns-then-end-rest : goal.returns-then-end-rest

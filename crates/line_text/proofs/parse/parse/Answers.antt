@@ -1,7 +1,6 @@
 use mathlib.Core.Path.{sym, ◌∙◌}
 use native.Mathlib.Omega.{arith}
 use lib.Seq.{length-take-le}
-use borrow.Author.Rules.{rules}
 use Rattle.line_text.proofs.RequestLaws.{alone_step, alone_bad, with_words}
 use Rattle.line_text.proofs.RequestLaws.{line_long}
 use Rattle.line_text.proofs.parse.parse.Goals as goal

@@ -1,5 +1,4 @@
 use mathlib.Core.Path.{◌∙◌}
-use borrow.Author.Rules.{rules}
 use Rattle.line_text.proofs.RequestLaws.{both_words, too_many_lem}
 use Rattle.line_text.proofs.parse.second_operand.Goals as goal
 

@@ -1,5 +1,4 @@
 use mathlib.Core.Path.{sym, ◌∙◌}
-use borrow.Author.Rules.{rules}
 use Rattle.line_text.proofs.RequestLaws.{one_fresh, one_car, one_cdr, one_bad}
 use Rattle.line_text.proofs.parse.with_one.Goals as goal
 

@@ -1,5 +1,4 @@
 use mathlib.Core.Path.{sym, ◌∙◌}
-use borrow.Author.Rules.{rules}
 use Rattle.line_text.proofs.RequestLaws.{two_cons, two_setl, two_setr, two_up, two_down, two_bad}
 use Rattle.line_text.proofs.parse.with_two.Goals as goal
 

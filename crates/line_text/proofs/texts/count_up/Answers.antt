@@ -1,4 +1,3 @@
-use borrow.Author.Rules.{rules}
 use Rattle.line_text.proofs.PutLaws.{counts_up}
 use Rattle.line_text.proofs.texts.count_up.Goals as goal
 

@@ -1,6 +1,5 @@
 use mathlib.Core.Path.{◌∙◌}
 use native.Mathlib.Omega.{arith}
-use borrow.Author.Rules.{rules}
 use Rattle.base_ten.specs.Decimal.{most_digits}
 use Rattle.base_ten.proofs.PutLaws.{put_both_lem, put_within, digits_length}
 use Rattle.line_text.specs.Texts.{verdict_room, output_line}

@@ -1,10 +1,6 @@
-use mathlib.Core.Path.{◌≡◌, refl}
-use mathlib.Core.List.{◌++◌}
-use Prim.Native.Nat.{◌+◌, ◌-◌, ◌≤◌}
+use mathlib.Core.Path.{refl}
 use native.Mathlib.Omega.{arith}
-use lib.ListN.{length, take, length-set}
-use borrow.Author.Rules.{rules}
-use Rattle.base_ten.specs.Decimal.{most_digits}
+use lib.ListN.{length-set}
 use Rattle.base_ten.proofs.PutLaws.{word_none, word_step}
 use Rattle.line_text.proofs.PutLaws.{shows_some, shows_most, number_put}
 use Rattle.line_text.proofs.texts.put_number.Goals as goal

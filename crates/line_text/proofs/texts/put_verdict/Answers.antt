@@ -1,4 +1,3 @@
-use borrow.Author.Rules.{rules}
 use Rattle.line_text.proofs.texts.put_verdict.Goals as goal
 
 pub returns-in-Ok : goal.returns-in-Ok
