@@ -1,0 +1,5 @@
+use borrow.Author.Rules.{rules}
+use Rattle.session_lines.proofs.feed.Goals as goal
+
+pub returns : goal.returns
+returns c = c.serve_lines.ensures.feeds
