@@ -1,0 +1,6 @@
+use borrow.Author.Rules.{rules}
+use Rattle.rule_lines.proofs.HoldLaws.{fresh_cleans}
+use Rattle.rule_lines.proofs.hold.freshened.Goals as goal
+
+pub returns : goal.returns
+returns c = fresh_cleans c.fresh-reply.ensures
