@@ -1,4 +1,3 @@
-use borrow.Author.Rules.{rules}
 use Rattle.load_lines.proofs.next.Goals as goal
 
 pub returns-then-load : goal.returns-then-load

@@ -1,11 +1,7 @@
 use mathlib.Core.Path.{refl, ◌∙◌}
-use Prim.Native.Nat.{◌-◌}
 use native.Mathlib.Omega.{arith}
-use lib.ListN.{length}
-use borrow.Author.Rules.{rules}
-use Rattle.rule_lines.specs.Progress.{state, rules_of}
 use Rattle.rule_lines.proofs.TellsLaws.{tells_none}
-use Rattle.rule_lines.proofs.FeedLaws.{Going, next_tells, stopped, ended}
+use Rattle.rule_lines.proofs.FeedLaws.{next_tells, stopped, ended}
 use Rattle.rule_lines.proofs.feed.Goals as goal
 
 pub next_line_feed-next-requires : goal.next_line_feed-next-requires

@@ -1,11 +1,7 @@
-use mathlib.Core.Path.{refl, ◌∙◌}
 use Prim.Native.Nat.{◌-◌}
-use native.Mathlib.Omega.{arith}
 use lib.ListN.{length}
-use borrow.Author.Rules.{rules}
 use Rattle.rule_lines.specs.Progress.{state, rules_of}
-use Rattle.rule_lines.proofs.TellsLaws.{tells_none}
-use Rattle.rule_lines.proofs.FeedLaws.{Going, next_tells, stopped, ended}
+use Rattle.rule_lines.proofs.FeedLaws.{Going}
 use Rattle.rule_lines.proofs.feed.Given as goal
 
 abbrev pub invariant-loop-next : goal.invariant-loop-next

@@ -1,6 +1,5 @@
 use native.Mathlib.Omega.{arith}
 use Rattle.rule_lines.proofs.FeedLaws.{finish_none, finish_line, no_more, more_waits}
-use borrow.Author.Rules.{rules}
 use Rattle.rule_lines.proofs.finish.Goals as goal
 
 pub returns-then-held-eq0 : goal.returns-then-held-eq0

@@ -1,4 +1,3 @@
-use borrow.Author.Rules.{rules}
 use Rattle.session_lines.proofs.feed.Goals as goal
 
 pub returns : goal.returns

@@ -1,8 +1,5 @@
-use mathlib.Core.Path.{◌≡◌}
 use native.Mathlib.Omega.{arith}
-use lib.ListN.{length}
 use borrow.Author.Rules.{rules}
-use Rattle.line_text.specs.Kept.{kept_bytes}
 use Rattle.session_lines.proofs.FeedLaws.{finish_none, finish_line, no_more, more_waits}
 use Rattle.session_lines.proofs.finish.Goals as goal
 

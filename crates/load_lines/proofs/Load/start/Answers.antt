@@ -1,4 +1,3 @@
-use borrow.Author.Rules.{rules}
 use Rattle.load_lines.proofs.Load.start.Goals as goal
 
 pub returns-in-Run : goal.returns-in-Run

@@ -1,5 +1,4 @@
 use native.Mathlib.Omega.{arith}
-use borrow.Author.Rules.{rules}
 use Rattle.load_lines.proofs.WriteLaws.{handed, bad_over, bad_waits, bad_told}
 use Rattle.load_lines.proofs.lines.bad_line.Goals as goal
 

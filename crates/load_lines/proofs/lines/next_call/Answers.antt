@@ -1,4 +1,3 @@
-use borrow.Author.Rules.{rules}
 use Rattle.load_lines.proofs.WriteLaws.{later_call}
 use Rattle.load_lines.proofs.lines.next_call.Goals as goal
 

@@ -1,17 +1,11 @@
-use mathlib.Core.Path.{◌≡◌, refl, sym, ap, ◌∙◌}
-use mathlib.Core.Bool.{false}
-use mathlib.Core.Logic.{⊎_elim}
-use Prim.Native.Nat.{◌+◌, ◌-◌, ◌≤◌, ◌<◌}
+use mathlib.Core.Path.{refl, ◌∙◌}
+use Prim.Native.Nat.{◌+◌}
 use native.Mathlib.Omega.{arith}
-use lib.ListN.{length}
-use borrow.Author.Rules.{rules}
 use Rattle.base_ten.proofs.PutLaws.{put_both_lem, put_within}
-use Rattle.line_text.specs.Put.{ShowsTens}
 use Rattle.call_text.specs.CallText.{line_room}
 use Rattle.call_text.proofs.TextLaws.{line_length}
 use Rattle.serving.proofs.ServeLaws.{Answers, answers, fresh_serves, row_serves, step_serves, bad_serves}
-use Rattle.load_lines.specs.Progress.{load_of}
-use Rattle.load_lines.proofs.WriteLaws.{Going, next_listing, both_within, stopped, ended, handed}
+use Rattle.load_lines.proofs.WriteLaws.{next_listing, both_within, stopped, ended, handed}
 use Rattle.load_lines.proofs.lines.serve_calls.Goals as goal
 use Rattle.load_lines.proofs.lines.serve_calls.Goals.{in-Bad, in-Fresh, in-Row, in-Step}
 
@@ -35,21 +29,21 @@ loop-done-preserved c =
     let cells = c.args.load.cells in
     let calls = c.args.load.calls in
     let a :
-        Answers l.table l.queue l.scratch c.next_call-drawn.result.request c.match-asked.verdict c.match-asked.table
-        c.match-asked.queue c.match-asked.scratch =
-        elim c.match-asked.branch [
-          in-Bad w ↦ answers w.in-Bad.is w.table-is w.scratch-is w.queue-is w.verdict-is bad_serves refl refl
-        | in-Fresh w ↦
+    Answers l.table l.queue l.scratch c.next_call-drawn.result.request c.match-asked.verdict c.match-asked.table
+    c.match-asked.queue c.match-asked.scratch =
+    elim c.match-asked.branch [
+      | in-Bad w ↦ answers w.in-Bad.is w.table-is w.scratch-is w.queue-is w.verdict-is bad_serves refl refl
+      | in-Fresh w ↦
           answers w.in-Fresh.is w.table-is w.scratch-is w.queue-is w.verdict-is
           (λ g. fresh_serves w.fresh_verdict-verdict.ensures g w.fresh-reply.ensures) w.fresh-reply.auto.table refl
-        | in-Row w ↦
+      | in-Row w ↦
           answers w.in-Row.is w.table-is w.scratch-is w.queue-is w.verdict-is
           (λ g. row_serves w.row_verdict-verdict.ensures g w.row-reply.ensures) w.row-reply.auto.table refl
-        | in-Step w ↦
+      | in-Step w ↦
           answers w.in-Step.is w.table-is w.scratch-is w.queue-is w.verdict-is
           (λ g. step_serves w.step_verdict-verdict.ensures g w.step-reply.ensures) w.step-reply.auto.table
           w.step-reply.auto.scratch
-        ] in
+    ] in
     let both = put_both_lem c.put_call_line-written.ensures c.put_line-written.ensures in
     let size = c.put_line-written.auto.out ∙ c.put_call_line-written.auto.out in
     record {

@@ -1,6 +1,5 @@
 use mathlib.Core.Path.{◌∙◌}
 use Rattle.rule_lines.proofs.HoldLaws.{all_cleaned}
-use borrow.Author.Rules.{rules}
 use Rattle.rule_lines.proofs.hold.clean.Goals as goal
 
 pub shape_of-table : goal.shape_of-table

@@ -1,7 +1,6 @@
 use mathlib.Core.Path.{refl, ◌∙◌}
 use native.Mathlib.Omega.{arith}
-use borrow.Author.Rules.{rules}
-use Rattle.rule_lines.proofs.HoldLaws.{Draining, one_step}
+use Rattle.rule_lines.proofs.HoldLaws.{one_step}
 use Rattle.rule_lines.proofs.hold.drain.Goals as goal
 
 pub loop-left-init : goal.loop-left-init

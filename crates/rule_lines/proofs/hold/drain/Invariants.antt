@@ -1,7 +1,4 @@
-use mathlib.Core.Path.{refl, ◌∙◌}
-use native.Mathlib.Omega.{arith}
-use borrow.Author.Rules.{rules}
-use Rattle.rule_lines.proofs.HoldLaws.{Draining, one_step}
+use Rattle.rule_lines.proofs.HoldLaws.{Draining}
 use Rattle.rule_lines.proofs.hold.drain.Given as goal
 
 abbrev pub invariant-loop-left : goal.invariant-loop-left

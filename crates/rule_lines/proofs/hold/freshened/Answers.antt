@@ -1,4 +1,3 @@
-use borrow.Author.Rules.{rules}
 use Rattle.rule_lines.proofs.HoldLaws.{fresh_cleans}
 use Rattle.rule_lines.proofs.hold.freshened.Goals as goal
 

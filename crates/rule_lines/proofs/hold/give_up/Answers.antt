@@ -1,4 +1,3 @@
-use borrow.Author.Rules.{rules}
 use Rattle.rule_lines.proofs.HoldLaws.{gives_nil, gives_atom, gives_cell}
 use Rattle.rule_lines.proofs.hold.give_up.Goals as goal
 

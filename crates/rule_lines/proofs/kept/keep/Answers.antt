@@ -1,9 +1,6 @@
-use mathlib.Core.List.{◌++◌}
-use mathlib.Core.Path.{◌≡◌, refl}
-use Prim.Native.Nat.{◌+◌, ◌-◌, ◌≤◌}
+use mathlib.Core.Path.{refl}
 use native.Mathlib.Omega.{arith}
-use lib.ListN.{length, take, length-set}
-use borrow.Author.Rules.{rules}
+use lib.ListN.{length, length-set}
 use Rattle.base_ten.proofs.KeepLaws.{kept_more, kept_full, kept_all}
 use Rattle.base_ten.proofs.PutLaws.{word_none}
 use Rattle.rule_lines.proofs.kept.keep.Goals as goal

@@ -1,11 +1,7 @@
 use mathlib.Core.List.{◌++◌}
-use mathlib.Core.Path.{◌≡◌, refl}
+use mathlib.Core.Path.{◌≡◌}
 use Prim.Native.Nat.{◌+◌, ◌-◌, ◌≤◌}
-use native.Mathlib.Omega.{arith}
-use lib.ListN.{length, take, length-set}
-use borrow.Author.Rules.{rules}
-use Rattle.base_ten.proofs.KeepLaws.{kept_more, kept_full, kept_all}
-use Rattle.base_ten.proofs.PutLaws.{word_none}
+use lib.ListN.{length, take}
 use Rattle.rule_lines.proofs.kept.keep.Given as goal
 
 abbrev pub invariant-loop-i : goal.invariant-loop-i

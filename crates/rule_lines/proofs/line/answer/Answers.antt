@@ -1,6 +1,5 @@
 use mathlib.Core.Path.{◌∙◌}
 use Rattle.rule_lines.proofs.AnswerLaws.{answers_no, answers_text}
-use borrow.Author.Rules.{rules}
 use Rattle.rule_lines.proofs.line.answer.Goals as goal
 
 pub shape_of-table-in-Refused : goal.shape_of-table-in-Refused

@@ -2,7 +2,6 @@ use mathlib.Core.Path.{sym}
 use native.Mathlib.Omega.{arith}
 use lib.Seq.{length-take-le}
 use Rattle.rule_lines.proofs.AnswerLaws.{answers_whole, answers_kept}
-use borrow.Author.Rules.{rules}
 use Rattle.rule_lines.proofs.line.answer_held.Goals as goal
 
 pub shape_of-table-then-held-eq0 : goal.shape_of-table-then-held-eq0

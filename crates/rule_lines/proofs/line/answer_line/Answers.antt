@@ -1,7 +1,6 @@
 use lib.ListN.{length-set}
 use native.Mathlib.Omega.{arith}
 use Rattle.rule_lines.proofs.AnswerLaws.{answers_line}
-use borrow.Author.Rules.{rules}
 use Rattle.rule_lines.proofs.line.answer_line.Goals as goal
 
 pub shape_of-table : goal.shape_of-table

@@ -2,7 +2,6 @@ use mathlib.Core.Path.{sym}
 use native.Mathlib.Omega.{arith}
 use lib.Seq.{length-take-le}
 use Rattle.rule_lines.proofs.AnswerLaws.{put_shortened}
-use borrow.Author.Rules.{rules}
 use Rattle.rule_lines.proofs.line.put_front.Goals as goal
 
 pub slice_bounds-put_word-end : goal.slice_bounds-put_word-end

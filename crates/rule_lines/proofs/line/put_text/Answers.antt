@@ -1,5 +1,4 @@
 use Rattle.rule_lines.proofs.AnswerLaws.{puts_text}
-use borrow.Author.Rules.{rules}
 use Rattle.rule_lines.proofs.line.put_text.Goals as goal
 
 pub returns : goal.returns

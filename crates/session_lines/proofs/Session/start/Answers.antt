@@ -1,8 +1,6 @@
 use mathlib.Core.Path.{ap}
 use lib.ListN.{replicate}
-use borrow.Author.Rules.{rules}
 use Rattle.line_text.specs.Kept.{kept_bytes}
-use Rattle.session_lines.specs.declared.Session.{Session}
 use Rattle.machine.specs.declared.Queue.{Queue}
 use Rattle.session_lines.proofs.Session.start.Goals as goal
 

@@ -1,7 +1,6 @@
 use mathlib.Core.Path.{sym, ap, ◌∙◌}
 use native.Mathlib.Omega.{arith}
 use lib.Seq.{length-take-le}
-use borrow.Author.Rules.{rules}
 use Rattle.line_text.specs.Requests.{request_of}
 use Rattle.line_text.proofs.KeepLaws.{request_capped}
 use Rattle.session_lines.proofs.lines.request.Goals as goal

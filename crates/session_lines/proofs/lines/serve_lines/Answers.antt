@@ -1,14 +1,9 @@
-use mathlib.Core.Path.{◌≡◌, refl, ◌∙◌}
-use mathlib.Core.Logic.{⊎_elim}
-use Prim.Native.Nat.{◌-◌, ◌<◌}
+use mathlib.Core.Path.{refl, ◌∙◌}
+use Prim.Native.Nat.{◌<◌}
 use native.Mathlib.Omega.{arith}
-use lib.ListN.{length}
 use borrow.Author.Rules.{rules}
-use Rattle.line_text.specs.Kept.{kept_bytes}
-use Rattle.line_text.specs.Put.{ShowsTens}
 use Rattle.serving.proofs.ServeLaws.{Answers, answers, fresh_serves, row_serves, step_serves, bad_serves}
-use Rattle.session_lines.specs.Progress.{session_of}
-use Rattle.session_lines.proofs.FeedLaws.{Going, next_tells, next_within, stopped, ended}
+use Rattle.session_lines.proofs.FeedLaws.{next_tells, next_within, stopped, ended}
 use Rattle.session_lines.proofs.TellsLaws.{tells_none}
 use Rattle.session_lines.proofs.lines.serve_lines.Goals as goal
 use Rattle.session_lines.proofs.lines.serve_lines.Goals.{in-Bad, in-Fresh, in-Row, in-Step}
@@ -64,21 +59,21 @@ loop-feed-preserved c =
     let inside = c.loop-feed-test.true in
     let en = c.next_number-lines.ensures in
     let a :
-        Answers l.table l.queue l.scratch c.request-asked.result c.match-asked.verdict c.match-asked.table
-        c.match-asked.queue c.match-asked.scratch =
-        elim c.match-asked.branch [
-          in-Bad w ↦ answers w.in-Bad.is w.table-is w.scratch-is w.queue-is w.verdict-is bad_serves refl refl
-        | in-Fresh w ↦
+    Answers l.table l.queue l.scratch c.request-asked.result c.match-asked.verdict c.match-asked.table
+    c.match-asked.queue c.match-asked.scratch =
+    elim c.match-asked.branch [
+      | in-Bad w ↦ answers w.in-Bad.is w.table-is w.scratch-is w.queue-is w.verdict-is bad_serves refl refl
+      | in-Fresh w ↦
           answers w.in-Fresh.is w.table-is w.scratch-is w.queue-is w.verdict-is
           (λ g. fresh_serves w.fresh_verdict-verdict.ensures g w.fresh-reply.ensures) w.fresh-reply.auto.table refl
-        | in-Row w ↦
+      | in-Row w ↦
           answers w.in-Row.is w.table-is w.scratch-is w.queue-is w.verdict-is
           (λ g. row_serves w.row_verdict-verdict.ensures g w.row-reply.ensures) w.row-reply.auto.table refl
-        | in-Step w ↦
+      | in-Step w ↦
           answers w.in-Step.is w.table-is w.scratch-is w.queue-is w.verdict-is
           (λ g. step_serves w.step_verdict-verdict.ensures g w.step-reply.ensures) w.step-reply.auto.table
           w.step-reply.auto.scratch
-        ] in
+    ] in
     record {
       most = omega (arith, inside);
       within = next_within number c.match-asked.verdict (omega (arith, c.if-out-written-lt-ROOM.false, i.within)) k.auto.out k.ensures;

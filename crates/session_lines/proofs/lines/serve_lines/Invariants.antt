@@ -1,15 +1,7 @@
-use mathlib.Core.Path.{◌≡◌, refl, ◌∙◌}
-use mathlib.Core.Logic.{⊎_elim}
-use Prim.Native.Nat.{◌-◌, ◌<◌}
-use native.Mathlib.Omega.{arith}
+use Prim.Native.Nat.{◌-◌}
 use lib.ListN.{length}
-use borrow.Author.Rules.{rules}
-use Rattle.line_text.specs.Kept.{kept_bytes}
-use Rattle.line_text.specs.Put.{ShowsTens}
-use Rattle.serving.proofs.ServeLaws.{Answers, answers, fresh_serves, row_serves, step_serves, bad_serves}
 use Rattle.session_lines.specs.Progress.{session_of}
-use Rattle.session_lines.proofs.FeedLaws.{Going, next_tells, next_within, stopped, ended}
-use Rattle.session_lines.proofs.TellsLaws.{tells_none}
+use Rattle.session_lines.proofs.FeedLaws.{Going}
 use Rattle.session_lines.proofs.lines.serve_lines.Given as goal
 
 abbrev pub invariant-loop-feed : goal.invariant-loop-feed
