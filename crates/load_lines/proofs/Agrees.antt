@@ -1,20 +1,16 @@
 -- The call lines are read back as the calls, so that the session program serves the same ones.
-use mathlib.Core.Path.{◌≡◌, refl, sym, ap, ◌∙◌}
+use mathlib.Core.Path.{◌≡◌, refl, ap, ◌∙◌}
 use mathlib.Core.Bool.{Bool, true, false, cond}
 use mathlib.Core.List.{List, [], ◌∷◌, ◌++◌, append_assoc}
 use Prim.Native.Nat.{ℕ, zero, suc, ◌+◌, ◌%◌, ◌≤◌}
-use native.Mathlib.Nat.{mod-lt}
 use native.Mathlib.Omega.{arith}
 use lib.Dec.{eqb}
-use lib.ListN.{length}
 use borrow.Author.Tests.{eqb-false}
 use Rattle.base_ten.specs.Bytes.{ascii, line_feed, space, before, split, lines_of}
 use Rattle.base_ten.specs.Decimal.{most_digits, decimal}
-use Rattle.machine.specs.declared.RowCall
 use Rattle.machine.specs.declared.RowCall.{RowCall}
 use Rattle.machine.specs.Words.{most_cells, first_atom}
 use Rattle.machine.specs.Calls.{Store}
-use Rattle.line_text.specs.declared.Request
 use Rattle.line_text.specs.declared.Request.{Request}
 use Rattle.line_text.specs.Requests.{most_operand}
 use Rattle.call_text.specs.CallText.{one_text, two_text, row_text, call_text, call_line}

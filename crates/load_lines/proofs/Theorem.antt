@@ -1,24 +1,20 @@
 -- The parts' outputs joined are the listing of the inputs joined.
 use mathlib.Core.Path.{◌≡◌, refl, sym, ap, ◌∙◌}
-use mathlib.Core.Bool.{Bool, true, false}
 use mathlib.Core.List.{List, [], ◌∷◌, ◌++◌, append_assoc}
-use Prim.Native.Nat.{ℕ, zero, suc, ◌≤◌, ◌<◌}
-use native.Mathlib.Omega.{arith}
+use Prim.Native.Nat.{ℕ, zero, suc}
 use lib.ListN.{length, take}
 use borrow.Author.Tests.{leb-false}
 use Rattle.base_ten.proofs.WordLaws.{append_none}
 use Rattle.machine.specs.Words.{most_cells}
 use Rattle.line_text.specs.Kept.{kept_bytes}
-use Rattle.serving.specs.Serving.{unmade, Good}
+use Rattle.serving.specs.Serving.{Good}
 use Rattle.serving.proofs.ServeLaws.{unmade_good}
-use Rattle.traffic.specs.declared.Workload
 use Rattle.traffic.specs.declared.Workload.{Workload}
 use Rattle.traffic.specs.Workload.{workload_of}
 use Rattle.traffic.specs.Traffic.{traffic}
 use Rattle.traffic.proofs.CapLaws.{workload_capped}
-use Rattle.load_lines.specs.declared.Load.{Load}
-use Rattle.load_lines.specs.Listing.{told, listing_with, listing}
-use Rattle.load_lines.specs.Progress.{started, upcoming, bad_ahead, ahead, is_more}
+use Rattle.load_lines.specs.Listing.{listing_with, listing}
+use Rattle.load_lines.specs.Progress.{upcoming, ahead}
 use Rattle.load_lines.specs.Whole.{Kept, kept_input, Read, Reads, last_kept, inputs, State, Part, Wrote, last_state, outputs, nothing, begin, Whole}
 use Rattle.load_lines.proofs.WriteLaws.{nothing_ahead}
 

@@ -6,26 +6,24 @@ use Prim.Native.Nat.{ℕ, zero, suc, ◌+◌, ◌-◌, ◌≤◌, ◌<◌}
 use native.Mathlib.Numerals.{add-one}
 use native.Mathlib.Nat.{sub-zero}
 use native.Mathlib.Omega.{arith}
-use lib.Dec.{leb, eqb}
+use lib.Dec.{eqb}
 use lib.ListN.{length, take, length-append}
 use borrow.Author.Tests.{eqb-true, eqb-false}
 use Rattle.base_ten.specs.Put.{Put}
 use Rattle.base_ten.proofs.WordLaws.{append_none}
-use Rattle.base_ten.proofs.PutLaws.{put_both_lem, put_within}
 use Rattle.machine.specs.declared.Queue.{Queue}
 use Rattle.machine.specs.Calls.{Store, store}
-use Rattle.line_text.specs.declared.Request
 use Rattle.line_text.specs.declared.Request.{Request}
 use Rattle.line_text.specs.declared.Verdict.{Verdict}
-use Rattle.line_text.specs.Texts.{room, output_line}
+use Rattle.line_text.specs.Texts.{output_line}
 use Rattle.line_text.specs.Put.{ShowsTens}
 use Rattle.line_text.proofs.PutLaws.{output_length}
-use Rattle.call_text.specs.CallText.{call_line, line_room}
+use Rattle.call_text.specs.CallText.{call_line}
 use Rattle.call_text.proofs.TextLaws.{line_length}
-use Rattle.serving.specs.Serving.{served, Good}
+use Rattle.serving.specs.Serving.{Good}
 use Rattle.serving.proofs.ServeLaws.{Serves}
 use Rattle.traffic.specs.declared.Drawn.{Drawn}
-use Rattle.traffic.specs.Traffic.{drawn, call_drawn, calls_drawn}
+use Rattle.traffic.specs.Traffic.{call_drawn, calls_drawn}
 use Rattle.load_lines.specs.declared.Load.{Load}
 use Rattle.load_lines.specs.Listing.{told, bad_line}
 use Rattle.load_lines.specs.Progress.{both_room, load_of, turn, upcoming, bad_ahead, ahead, is_more, Writes}

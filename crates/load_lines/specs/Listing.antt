@@ -7,7 +7,6 @@ use Rattle.line_text.specs.declared.Request.{Request}
 use Rattle.line_text.specs.Texts.{output_line}
 use Rattle.call_text.specs.CallText.{call_line}
 use Rattle.serving.specs.Serving.{served, unmade}
-use Rattle.traffic.specs.declared.Workload
 use Rattle.traffic.specs.declared.Workload.{Workload}
 use Rattle.traffic.specs.Workload.{workload_of}
 use Rattle.traffic.specs.Traffic.{traffic}

@@ -3,12 +3,10 @@ use Rattle.std.specs.Prelude.{◌≡◌, Bool, true, false, cond, List, [], ◌�
 use Rattle.machine.specs.declared.Queue.{Queue}
 use Rattle.machine.specs.Queue.{empty_queue}
 use Rattle.machine.specs.Calls.{store}
-use Rattle.line_text.specs.declared.Request
 use Rattle.line_text.specs.declared.Request.{Request}
 use Rattle.line_text.specs.Texts.{room}
 use Rattle.call_text.specs.CallText.{line_room}
 use Rattle.serving.specs.Serving.{Good}
-use Rattle.traffic.specs.declared.Workload
 use Rattle.traffic.specs.declared.Workload.{Workload}
 use Rattle.traffic.specs.declared.Drawn.{Drawn}
 use Rattle.traffic.specs.Traffic.{drawn, call_drawn, calls_drawn}

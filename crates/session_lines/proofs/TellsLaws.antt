@@ -18,7 +18,7 @@ use Rattle.line_text.specs.Requests.{request_of}
 use Rattle.line_text.specs.Kept.{kept_bytes, Keeps}
 use Rattle.line_text.specs.Put.{Next}
 use Rattle.line_text.specs.Texts.{output_line}
-use Rattle.serving.specs.Serving.{served, Good}
+use Rattle.serving.specs.Serving.{Good}
 use Rattle.session_lines.specs.Listing.{listed}
 use Rattle.serving.proofs.ServeLaws.{Serves}
 use Rattle.session_lines.specs.Progress.{session_of, begun_line, ahead, TellsLine, Tells}

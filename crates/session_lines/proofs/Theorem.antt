@@ -1,9 +1,8 @@
 -- The parts' outputs joined are the listing of the parts joined.
-use mathlib.Core.Path.{◌≡◌, refl, sym, ap, ◌∙◌}
+use mathlib.Core.Path.{◌≡◌, sym, ap, ◌∙◌}
 use mathlib.Core.List.{List, [], ◌∷◌, ◌++◌}
-use Prim.Native.Nat.{ℕ, ◌+◌, ◌^◌, ◌<◌}
+use Prim.Native.Nat.{ℕ}
 use native.Mathlib.Omega.{arith}
-use lib.ListN.{length, take}
 use Rattle.base_ten.specs.Bytes.{lines_of}
 use Rattle.base_ten.proofs.WordLaws.{append_none}
 use Rattle.base_ten.proofs.LineLaws.{onto_none}
@@ -11,7 +10,7 @@ use Rattle.session_lines.specs.Listing.{listed, listing_with, listing}
 use Rattle.machine.specs.Words.{most_cells}
 use Rattle.serving.specs.Serving.{unmade}
 use Rattle.serving.proofs.ServeLaws.{unmade_good}
-use Rattle.session_lines.specs.Progress.{ahead, Tells, Feeds, Finishes}
+use Rattle.session_lines.specs.Progress.{ahead, Tells}
 use Rattle.session_lines.specs.Whole.{State, Part, Fed, last_state, inputs, outputs, begin, Whole}
 use Rattle.session_lines.proofs.TellsLaws.{tells_both, tells_none}
 
