@@ -12,15 +12,12 @@ use Rattle.notation.specs.Trees.{pairs, largest}
 use Rattle.notation.specs.Parse.{Parsed, tree, none, parse, is_tree, meaning}
 use Rattle.notation.specs.Brackets.{too_deep}
 use Rattle.notation.proofs.Theorems.{values_read}
-use Rattle.scanner.specs.declared.Scanned
 use Rattle.scanner.specs.declared.Scanned.{Scanned}
 use Rattle.notation.specs.Grammar.{most_text}
 use Rattle.scanner.specs.Scans.{judged, scan_of}
 use Rattle.machine.specs.declared.Queue.{Queue}
-use Rattle.machine.specs.declared.Asked
 use Rattle.machine.specs.declared.Asked.{Asked}
 use Rattle.machine.specs.declared.Refusal.{Refusal}
-use Rattle.machine.specs.declared.RowAnswer
 use Rattle.machine.specs.declared.RowAnswer.{RowAnswer}
 use Rattle.machine.specs.Words.{is_cell, first_atom, may_be_stored}
 use Rattle.machine.specs.Table.{left, capacity, first_free, word_at}

@@ -4,7 +4,7 @@ use mathlib.Core.List.{List, [], ◌∷◌, ◌++◌, append_assoc}
 use Prim.Native.Nat.{ℕ, suc, ◌+◌, ◌≤◌}
 use native.Mathlib.Omega.{arith}
 use lib.ListN.{length, length-append}
-use Rattle.notation.specs.Trees.{Tree, nil, atom, pair, pairs}
+use Rattle.notation.specs.Trees.{Tree, nil, atom, pairs}
 use Rattle.notation.specs.Grammar.{Token, opening, closing, dot, number}
 use Rattle.notation.specs.Parse.{Mark, token, foreign, Frame, plain, dotted, full, State, within, outside, deliver, list_of, on_token, next, parsed_from, tree_of, tree, none}
 use Rattle.notation.proofs.Tall.{stays_outside}

@@ -5,14 +5,10 @@ use mathlib.Core.List.{List, [], ◌∷◌, ◌++◌}
 use Prim.Native.Nat.{ℕ, zero, suc, pred, ◌+◌, ◌-◌, ◌≤◌, ◌<◌}
 use native.Mathlib.Omega.{arith}
 use native.Mathlib.Numerals.{add-one, sub-one}
-use denote.Enum.Declared.{tag_of}
-use types.Run.{OneOf, miss}
 use lib.ListN.{length, get_or, take, drop, set, length-take, length-set, drop_of_length-le}
 use lib.Seq.{length-take-le, take-suc-set, drop-cons, get_or-take, get_or-set_same, get_or-set_other, set-get_or, take-take}
 use Rattle.scanner.specs.Tokens.{marks_of_token}
-use Rattle.scanner.specs.declared.tokens.Token
 use Rattle.scanner.specs.declared.tokens.Token.{Token}
-use Rattle.scanner.specs.contracts.tokens.Token.{the_type}
 use Rattle.notation.specs.Grammar.{closing, dot}
 use Rattle.notation.specs.Trees.{largest_value}
 use Rattle.notation.specs.Brackets.{most_open}

@@ -11,7 +11,6 @@ use Rattle.notation.specs.Trees.{Tree, nil, atom, pairs}
 use Rattle.notation.specs.Grammar.{opening, closing, dot, number}
 use Rattle.notation.specs.Parse.{Mark, token, Frame, plain, dotted, full, within, on_token, parsed_from, tree_of, tree}
 use Rattle.notation.specs.Brackets.{most_open}
-use Rattle.scanner.specs.declared.tokens.Token
 use Rattle.scanner.specs.declared.tokens.Token.{Token}
 use Rattle.scanner.specs.Tokens.{marks_of_token, ValueOfToken}
 use Rattle.scanner.specs.Scanning.{Based}

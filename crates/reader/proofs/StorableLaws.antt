@@ -14,7 +14,6 @@ use Rattle.notation.specs.Brackets.{too_deep}
 use Rattle.notation.proofs.MarkLaws.{clash}
 use Rattle.notation.proofs.LargestLaws.{largest_within}
 use Rattle.notation.proofs.Theorems.{values_read}
-use Rattle.scanner.specs.declared.Scanned
 use Rattle.scanner.specs.declared.Scanned.{Scanned}
 use Rattle.scanner.specs.Scans.{judged, scan_of}
 use Rattle.machine.specs.Words.{first_atom, clip, may_be_stored}

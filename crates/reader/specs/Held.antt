@@ -1,6 +1,5 @@
 -- How arrays hold what stands between two tokens, and the room that a token needs.
 use Rattle.std.specs.Prelude.{◌≡◌, Bool, false, List, [], ◌∷◌, ℕ, zero, suc, ◌≤◌, ◌<◌, length, get_or, take}
-use Rattle.scanner.specs.declared.tokens.Token
 use Rattle.scanner.specs.declared.tokens.Token.{Token}
 use Rattle.notation.specs.Trees.{largest_value}
 use Rattle.notation.specs.Brackets.{most_open}

@@ -1,4 +1,3 @@
-use borrow.Author.Rules.{rules}
 use Rattle.reader.proofs.CalledLaws.{readable, read_refused, read_done_lem}
 use Rattle.reader.proofs.read_text.Goals as goal
 

@@ -4,10 +4,9 @@ use mathlib.Core.Bool.{true}
 use Prim.Native.Nat.{◌-◌, ◌≤◌}
 use lib.ListN.{length}
 use native.Mathlib.Omega.{arith}
-use borrow.Author.Rules.{rules}
 use borrow.Author.Tests.{not-true, not-false}
 use Rattle.machine.specs.Words.{is_cell, most_cells}
-use Rattle.machine.specs.Table.{capacity, first_free, table_length}
+use Rattle.machine.specs.Table.{capacity, table_length}
 use Rattle.machine.proofs.Words.{cell_index, cell_number_lem}
 use Rattle.reader.specs.Called.{chain_has}
 use Rattle.reader.proofs.CalledLaws.{chain_ends, chain_goes, chain_none}

@@ -1,15 +1,6 @@
-use mathlib.Core.Path.{◌≡◌, sym, ap, ◌∙◌}
-use mathlib.Core.Bool.{true}
-use Prim.Native.Nat.{◌-◌, ◌≤◌}
-use lib.ListN.{length}
-use native.Mathlib.Omega.{arith}
-use borrow.Author.Rules.{rules}
-use borrow.Author.Tests.{not-true, not-false}
-use Rattle.machine.specs.Words.{is_cell, most_cells}
-use Rattle.machine.specs.Table.{capacity, first_free, table_length}
-use Rattle.machine.proofs.Words.{cell_index, cell_number_lem}
+use mathlib.Core.Path.{◌≡◌}
+use Rattle.machine.specs.Table.{first_free}
 use Rattle.reader.specs.Called.{chain_has}
-use Rattle.reader.proofs.CalledLaws.{chain_ends, chain_goes, chain_none}
 use Rattle.reader.proofs.asked.chain_has.Given as goal
 
 abbrev pub invariant-loop-rest : goal.invariant-loop-rest

@@ -1,6 +1,5 @@
 use mathlib.Core.Path.{sym}
 use native.Mathlib.Omega.{arith}
-use borrow.Author.Rules.{rules}
 use Rattle.reader.proofs.CalledLaws.{slots_few, slots_enough}
 use Rattle.reader.proofs.asked.pairs_asked.Goals as goal
 

@@ -1,11 +1,7 @@
 use mathlib.Core.Bool.{not}
 use mathlib.Core.Path.{ap}
-use mathlib.Core.Path.{◌≡◌, sym, ◌∙◌}
-use mathlib.Core.Bool.{true}
-use borrow.Author.Rules.{rules}
-use Rattle.machine.specs.declared.Queue.{Queue}
+use mathlib.Core.Path.{sym, ◌∙◌}
 use Rattle.machine.specs.Queue.{placed, empty_queue}
-use Rattle.machine.specs.Questions.{in_range}
 use Rattle.machine.proofs.Questions.{shape_is}
 use Rattle.calls.proofs.EarlyLaws.{yes, no}
 use Rattle.reader.proofs.CalledLaws.{asked_first, asked_outside, asked_deep, asked_tree}

@@ -1,5 +1,4 @@
 use mathlib.Core.Path.{sym, ◌∙◌}
-use borrow.Author.Rules.{rules}
 use Rattle.reader.proofs.CalledLaws.{stored_yes, stored_no}
 use Rattle.reader.proofs.asked.tree_asked.Goals as goal
 

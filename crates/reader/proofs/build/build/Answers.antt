@@ -1,8 +1,5 @@
-use Prim.Native.Nat.{◌-◌}
 use native.Mathlib.Omega.{arith}
-use lib.ListN.{length}
-use borrow.Author.Rules.{rules}
-use Rattle.reader.proofs.BuildLaws.{Going, going_first, going_room, going_next, going_last}
+use Rattle.reader.proofs.BuildLaws.{going_first, going_room, going_next, going_last}
 use Rattle.reader.proofs.build.build.Goals as goal
 
 pub loop-at-init : goal.loop-at-init

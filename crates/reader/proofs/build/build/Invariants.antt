@@ -1,8 +1,6 @@
 use Prim.Native.Nat.{◌-◌}
-use native.Mathlib.Omega.{arith}
 use lib.ListN.{length}
-use borrow.Author.Rules.{rules}
-use Rattle.reader.proofs.BuildLaws.{Going, going_first, going_room, going_next, going_last}
+use Rattle.reader.proofs.BuildLaws.{Going}
 use Rattle.reader.proofs.build.build.Given as goal
 
 abbrev pub invariant-loop-at : goal.invariant-loop-at

@@ -2,7 +2,6 @@ use mathlib.Core.Path.{refl}
 use mathlib.Core.List.{[]}
 use native.Mathlib.Omega.{arith}
 use lib.ListN.{take, length-set}
-use borrow.Author.Rules.{rules}
 use Rattle.machine.specs.Calls.{store}
 use Rattle.reader.specs.Reading.{ended}
 use Rattle.reader.proofs.HeldLaws.{some_words, words_number_lem, list_closed}

@@ -3,7 +3,6 @@ use mathlib.Core.Path.{◌≡◌}
 use mathlib.Core.List.{List, [], ◌∷◌, ◌++◌}
 use Prim.Native.Nat.{ℕ, ◌<◌, ◌≤◌}
 use lib.ListN.{length, take, length-append, length-take, length-set}
-use borrow.Author.Rules.{rules}
 use Rattle.reader.specs.Held.{most_words}
 use Rattle.reader.proofs.HeldLaws.{word_more}
 use Rattle.reader.proofs.build.end_list.Goals as goal

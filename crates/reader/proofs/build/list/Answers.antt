@@ -1,13 +1,8 @@
 use mathlib.Core.Path.{◌≡◌, refl}
 use mathlib.Core.List.{[]}
-use Prim.Native.Nat.{suc, ◌-◌, ◌≤◌, ◌<◌}
+use Prim.Native.Nat.{suc, ◌-◌}
 use native.Mathlib.Omega.{arith}
-use lib.ListN.{length, get_or, take, drop}
-use borrow.Author.Rules.{rules}
 use Rattle.machine.specs.Calls.{store}
-use Rattle.reader.specs.Reading.{pairs_by}
-use Rattle.reader.specs.Held.{most_words}
-use Rattle.reader.specs.Builds.{code_cons, Leaves}
 use Rattle.reader.proofs.HeldLaws.{pairs_none, pairs_more}
 use Rattle.reader.proofs.build.list.Goals as goal
 

@@ -1,14 +1,11 @@
-use mathlib.Core.Path.{◌≡◌, refl}
+use mathlib.Core.Path.{◌≡◌}
 use mathlib.Core.List.{[]}
-use Prim.Native.Nat.{suc, ◌-◌, ◌≤◌, ◌<◌}
-use native.Mathlib.Omega.{arith}
+use Prim.Native.Nat.{◌≤◌, ◌<◌}
 use lib.ListN.{length, get_or, take, drop}
-use borrow.Author.Rules.{rules}
 use Rattle.machine.specs.Calls.{store}
 use Rattle.reader.specs.Reading.{pairs_by}
 use Rattle.reader.specs.Held.{most_words}
 use Rattle.reader.specs.Builds.{code_cons, Leaves}
-use Rattle.reader.proofs.HeldLaws.{pairs_none, pairs_more}
 use Rattle.reader.proofs.build.list.Given as goal
 
 abbrev pub invariant-loop-i : goal.invariant-loop-i

@@ -1,4 +1,3 @@
-use borrow.Author.Rules.{rules}
 use Rattle.reader.proofs.HeldLaws.{pair_leaves}
 use Rattle.reader.proofs.build.pair.Goals as goal
 

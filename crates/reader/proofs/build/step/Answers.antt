@@ -1,5 +1,4 @@
 use native.Mathlib.Omega.{arith}
-use borrow.Author.Rules.{rules}
 use Rattle.reader.proofs.HeldLaws.{opening_room, step_opening, closing_some, closing_room, step_closing, dot_some, step_dot, number_room, step_number, step_other}
 use Rattle.reader.proofs.build.step.Goals as goal
 
