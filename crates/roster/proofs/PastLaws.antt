@@ -3,7 +3,7 @@ use mathlib.Core.Path.{◌≡◌, refl, sym, ap, subst, ◌∙◌}
 use mathlib.Core.Logic.{◌≢◌}
 use mathlib.Core.Bool.{true}
 use mathlib.Core.List.{List, [], ◌∷◌, ◌++◌, append_assoc}
-use Prim.Native.Nat.{ℕ, suc, ◌+◌, ◌-◌, ◌≤◌, ◌<◌}
+use Prim.Native.Nat.{ℕ, suc, ◌-◌, ◌≤◌, ◌<◌}
 use native.Mathlib.Omega.{arith}
 use lib.Dec.{leb}
 use lib.ListN.{length, length-append}
@@ -18,7 +18,7 @@ use Rattle.machine.proofs.Questions.{Numbered, AllYes, first_no_all}
 use Rattle.soundness.specs.Reliable.{Fields}
 use Rattle.resting.specs.Rests.{After}
 use Rattle.resting.proofs.Runs.{runs_then}
-use Rattle.readings.specs.Readings.{Entry, entry, Found, found, looked_up, replaced, with_seat, without, counted}
+use Rattle.readings.specs.Readings.{Entry, Found, found, looked_up, replaced, with_seat, without, counted}
 use Rattle.readings.specs.Calls.{RosterCall, set, look_up, remove, count, RosterReply, value, absent, refused, seats, most_value, is_seat, early_roster}
 use Rattle.readings.specs.Answers.{Given, given, has_room, found_reply, answered}
 use Rattle.roster_list.specs.Nodes.{Node, atom_of, entries_of, NodeAt, Leads, put_right}

@@ -8,7 +8,7 @@ use Rattle.machine.specs.declared.Queue.{Queue}
 use Rattle.machine.specs.Range.{occurrences}
 use Rattle.machine.specs.Table.{capacity}
 use Rattle.machine.specs.Packets.{waiting_change}
-use Rattle.machine.specs.Calls.{fresh, store}
+use Rattle.machine.specs.Calls.{store}
 use Rattle.machine.specs.Questions.{first_no}
 use Rattle.soundness.specs.Demand3.{Begun}
 use Rattle.soundness.specs.Reliable.{fields}

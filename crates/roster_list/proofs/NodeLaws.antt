@@ -10,7 +10,6 @@ use borrow.Author.Tests.{eq-eqb, ne_eqb}
 use Rattle.machine.specs.Range.{occurrences}
 use Rattle.machine.proofs.Range.{matching_same, occurrences_append}
 use Rattle.soundness.specs.Reliable.{Fields, fields}
-use Rattle.readings.specs.Readings.{entry}
 use Rattle.roster_list.specs.Nodes.{Node, atom_of, cells_of, Leads, Apart, put_right}
 use Rattle.roster_list.proofs.EntryLaws.{changed}
 

@@ -1,0 +1,5 @@
+use Rattle.roster_changes.proofs.Changing.{relinks}
+use Rattle.roster_changes.proofs.relink.Goals as goal
+
+pub returns : goal.returns
+returns c = relinks c.settle-put.ensures c.settle.ensures

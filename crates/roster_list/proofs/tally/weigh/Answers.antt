@@ -1,0 +1,5 @@
+use Rattle.roster_list.proofs.Turning.{weighs}
+use Rattle.roster_list.proofs.tally.weigh.Goals as goal
+
+pub returns : goal.returns
+returns c = weighs c.entry_word-seen.ensures c.weight_of-weight.ensures c.settle-moved.ensures
