@@ -1,7 +1,6 @@
 -- What a call replies and makes of the plain list, in a store of c cells; the paper's numbers and values of the code's answers.
 use Rattle.std.specs.Prelude.{Bool, cond, ◌||◌, List, ℕ, zero, suc, ◌+◌, ◌*◌, leb, length}
 use Rattle.machine.specs.Answers.{refusal_number}
-use Rattle.readings.specs.declared.RosterAnswer
 use Rattle.readings.specs.declared.RosterAnswer.{RosterAnswer}
 use Rattle.readings.specs.Readings.{Entry, Found, missing, found, looked_up, is_found, with_seat, without, counted}
 use Rattle.readings.specs.Calls.{RosterCall, set, look_up, remove, count, RosterReply, value, absent, refused}

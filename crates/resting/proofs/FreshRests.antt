@@ -7,7 +7,7 @@ use Rattle.machine.specs.Range.{occurrences}
 use Rattle.machine.specs.Table.{capacity}
 use Rattle.machine.specs.Packets.{waiting_change}
 use Rattle.machine.specs.Queue.{empty_queue}
-use Rattle.machine.specs.Calls.{fresh, value, Store, store}
+use Rattle.machine.specs.Calls.{fresh, value, Store}
 use Rattle.machine.specs.Machine.{accepted}
 use Rattle.machine.specs.Promise.{Promise}
 use Rattle.machine.proofs.Range.{matching_other}

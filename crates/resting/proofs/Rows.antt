@@ -12,7 +12,7 @@ use Rattle.machine.specs.Range.{occurrences, every_of}
 use Rattle.machine.specs.Words.{first_atom, largest_word, clip, ceiling, most_cells, is_nil, is_cell, is_atom, is_legal, may_be_stored}
 use Rattle.machine.specs.Table.{capacity, scratch_words, in_use}
 use Rattle.machine.specs.Promise.{Promise}
-use Rattle.machine.specs.Calls.{row, audit, RowCall, car, cdr, cons, set_right, up, down, Reply, store, reads_nil}
+use Rattle.machine.specs.Calls.{audit, RowCall, car, cdr, cons, set_right, up, down, Reply, store, reads_nil}
 use Rattle.machine.specs.Questions.{first_no, words_legal, words_storable, x_is_cell, number_in_range, early_row, ask_free}
 use Rattle.machine.specs.Step.{cleared}
 use Rattle.machine.proofs.Range.{and_both, or_right}

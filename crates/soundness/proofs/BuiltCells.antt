@@ -1,23 +1,23 @@
 -- Reading a text builds its cells by conses that the machine accepts: what is carried from cons to cons.
-use mathlib.Core.Path.{◌≡◌, refl, sym, ap, ◌∙◌}
-use mathlib.Core.Logic.{◌⊎◌, inl, inr, ⊎_elim, ◌≢◌}
+use mathlib.Core.Path.{◌≡◌, refl, ap, ◌∙◌}
+use mathlib.Core.Logic.{◌⊎◌, inl, inr, ⊎_elim}
 use mathlib.Core.Bool.{Bool, true, false, cond, ◌&&◌, ◌||◌}
 use mathlib.Core.List.{List, [], ◌∷◌, ◌++◌}
-use Prim.Native.Nat.{ℕ, zero, suc, pred, ◌+◌, ◌-◌, ◌≤◌, ◌<◌}
+use Prim.Native.Nat.{ℕ, suc, pred, ◌+◌, ◌-◌, ◌≤◌, ◌<◌}
 use native.Mathlib.Omega.{arith}
 use lib.Dec.{leb, eqb}
 use lib.ListN.{length}
 use borrow.Author.Tests.{eqb-true, eqb-false, lt-ltb, le-leb, lt-leb}
 use Rattle.notation.specs.Trees.{Tree, nil, atom, pair, largest_value, Values, pairs}
 use Rattle.machine.specs.declared.Queue.{Queue}
-use Rattle.machine.specs.Range.{total, select, matching, occurrences, every_of}
+use Rattle.machine.specs.Range.{select, matching, occurrences, every_of}
 use Rattle.machine.specs.Words.{is_nil, is_cell, is_atom, is_legal, may_be_stored, first_atom, largest_word, ceiling, most_cells}
 use Rattle.machine.specs.Table.{left, right, root_count, cell_count, capacity, first_free, word_at, in_use, is_free}
-use Rattle.machine.specs.Queue.{Packet, packet, slots, put_slot, appended, waiting}
+use Rattle.machine.specs.Queue.{Packet, slots, put_slot, appended, waiting}
 use Rattle.machine.specs.Packets.{kind_of, root, cell, plus, minus, changes_of, changes, moved_by, uses_of, uses, waiting_change}
 use Rattle.machine.specs.Counts.{held_at_least, pointers}
 use Rattle.machine.specs.Calls.{cons, row, value, Store, store, field, packet_of, reads_nil, written, value_of}
-use Rattle.machine.specs.Step.{named, Outcome, outcome}
+use Rattle.machine.specs.Step.{named, outcome}
 use Rattle.machine.specs.Texts.{Built, built, built_pair, build_by, atoms_storable, leaf, OpensOut, ends, opens}
 use Rattle.machine.specs.Questions.{first_no, words_legal, words_storable, held_enough, slot_empty, cell_free, held_within, pointers_within, early_row, early, ask_free, late, late_row, questions}
 use Rattle.machine.specs.Audit.{Sound}

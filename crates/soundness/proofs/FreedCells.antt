@@ -9,7 +9,7 @@ use native.Mathlib.Omega.{arith}
 use lib.Dec.{ltb, eqb}
 use borrow.Author.Tests.{ltb-false, le-ltb, eqb-true, eqb-false}
 use Rattle.machine.specs.Range.{occurrences, last_of}
-use Rattle.machine.specs.Table.{stride, left, right, root_count, cell_count, state, name_count, capacity, first_free, last_free, word_at, in_use, is_free}
+use Rattle.machine.specs.Table.{stride, right, root_count, cell_count, state, name_count, capacity, first_free, last_free, word_at, in_use, is_free}
 use Rattle.machine.specs.Queue.{Packet}
 use Rattle.machine.specs.Packets.{names, contains, is_named, times_named}
 use Rattle.machine.specs.Reached.{is_root_by_queue, points_to, begun, onward, ReachedByQueue, reached}

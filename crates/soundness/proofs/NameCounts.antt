@@ -1,24 +1,23 @@
 -- Name counts change when a packet is queued and when it is taken: what S1 to S5 say of all other words stands, and the counts stay those of the queue.
-use mathlib.Core.Path.{◌≡◌, refl, sym, ap, ap₂, ◌∙◌}
-use mathlib.Core.Logic.{◌⊎◌, inl, ⊎_elim, ◌≢◌}
+use mathlib.Core.Path.{◌≡◌, sym, ap, ap₂, ◌∙◌}
+use mathlib.Core.Logic.{inl, ⊎_elim, ◌≢◌}
 use mathlib.Core.Bool.{Bool, true, false, cond}
 use mathlib.Core.List.{List, [], ◌∷◌, ◌++◌}
-use Prim.Native.Nat.{ℕ, suc, ◌≤◌, ◌<◌}
+use Prim.Native.Nat.{ℕ, suc, ◌<◌}
 use native.Mathlib.Omega.{arith}
 use lib.Dec.{eqb}
-use lib.ListN.{length}
 use borrow.Author.Tests.{eqb-true, eqb-false, ltb-false}
-use Rattle.machine.specs.Table.{stride, right, root_count, cell_count, state, name_count, capacity, first_free, last_free, table_length, word_at, in_use}
+use Rattle.machine.specs.Table.{stride, cell_count, state, name_count, capacity, word_at, in_use}
 use Rattle.machine.specs.Queue.{Packet}
 use Rattle.machine.specs.Packets.{Direction, plus, minus, changes, names, contains, is_named, times_named}
-use Rattle.machine.specs.Reached.{is_root_by_queue, points_to}
+use Rattle.machine.specs.Reached.{is_root_by_queue}
 use Rattle.machine.specs.Step.{shifted, apply_changes, named, apply_packet}
 use Rattle.machine.proofs.Range.{tested}
 use Rattle.machine.proofs.Moves.{shifted_none}
 use Rattle.machine.proofs.Names.{named_length, named_capacity, named_first, named_last, named_word, named_field, named_root, named_use, named_count, none_contained, times_named_lem, times_append}
 use Rattle.machine.proofs.RootsByCell.{Counted}
 use Rattle.soundness.proofs.PacketKinds.{unnamed_first, unnamed_last}
-use Rattle.soundness.proofs.Views.{shown, Same, all_map, earlier, earlier_same, seen, seen_same, stages_same}
+use Rattle.soundness.proofs.Views.{shown, Same, all_map, earlier, earlier_same, seen_same, stages_same}
 use Rattle.soundness.proofs.LegalPackets.{fit_grows, LegalPacket, legal_grows}
 use Rattle.soundness.proofs.Facts.{Facts, Live, all_below, free_unnamed}
 use Rattle.soundness.proofs.FreeChain.{chain_same}

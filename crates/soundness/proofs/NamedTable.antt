@@ -1,14 +1,13 @@
 -- A table in which a packet's cells are named shows all that it showed: which cells are in use, their fields, the pointers, the trees.
-use mathlib.Core.Path.{◌≡◌, refl, sym, ap, ap₂, ◌∙◌}
+use mathlib.Core.Path.{◌≡◌, sym, ap, ◌∙◌}
 use mathlib.Core.Bool.{Bool, cond, not}
 use mathlib.Core.List.{List}
-use Prim.Native.Nat.{ℕ, pred, ◌+◌, ◌≤◌, ◌<◌}
+use Prim.Native.Nat.{ℕ, pred}
 use native.Mathlib.Omega.{arith}
 use lib.ListN.{length}
 use Rattle.notation.specs.Trees.{Tree}
-use Rattle.machine.specs.Range.{total, select, matching}
-use Rattle.machine.specs.Words.{is_cell}
-use Rattle.machine.specs.Table.{left, right, capacity, word_at, in_use, is_free}
+use Rattle.machine.specs.Range.{total, select}
+use Rattle.machine.specs.Table.{left, right, capacity, is_free}
 use Rattle.machine.specs.Queue.{Packet}
 use Rattle.machine.specs.Packets.{Direction}
 use Rattle.machine.specs.Counts.{pointers_from, pointers}

@@ -10,8 +10,8 @@ use borrow.Author.Tests.{leb-true}
 use Rattle.machine.specs.Words.{ceiling}
 use Rattle.machine.specs.Table.{stride, right, root_count, cell_count, state, capacity, first_free, word_at, in_use}
 use Rattle.machine.specs.Queue.{Packet}
-use Rattle.machine.specs.Packets.{Counter, root, cell, plus, minus, Change, changes, uses}
-use Rattle.machine.specs.Step.{counter_word, move_count, apply_changes}
+use Rattle.machine.specs.Packets.{root, cell, plus, minus, Change, changes, uses}
+use Rattle.machine.specs.Step.{move_count, apply_changes}
 use Rattle.machine.specs.Audit.{replayed}
 use Rattle.machine.proofs.Table.{each_word}
 use Rattle.machine.proofs.Moves.{first_free_move}

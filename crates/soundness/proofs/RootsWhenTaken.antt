@@ -1,13 +1,10 @@
 -- Name counts stay those of the queue when a packet is taken, so roots are told from the cell there too.
-use mathlib.Core.Path.{◌≡◌}
-use mathlib.Core.List.{List, ◌∷◌}
+use mathlib.Core.List.{List}
 use Prim.Native.Nat.{ℕ}
-use Rattle.machine.specs.declared.Queue.{Queue}
-use Rattle.machine.specs.Queue.{Packet, waiting, taken}
+use Rattle.machine.specs.Queue.{waiting, taken}
 use Rattle.machine.specs.Step.{apply_packet}
 use Rattle.machine.proofs.Select.{dead_is}
 use Rattle.machine.proofs.RootsByCell.{Counted, sound_counted, protected_is, root_is, by_queue, by_cell}
-use Rattle.soundness.specs.Whole.{Whole}
 use Rattle.soundness.specs.RootsWhenTaken.{TakenRoots, RootsWhenTaken}
 use Rattle.soundness.proofs.Facts.{slots_of, sound_facts}
 use Rattle.soundness.proofs.NameCounts.{packet_counted}

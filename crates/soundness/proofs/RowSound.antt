@@ -5,7 +5,7 @@ use mathlib.Core.List.{List, [], ◌∷◌, ◌++◌}
 use Prim.Native.Nat.{ℕ, pred, ◌≤◌, ◌<◌}
 use native.Mathlib.Omega.{arith}
 use Rattle.machine.specs.declared.Queue.{Queue}
-use Rattle.machine.specs.Table.{left, right, name_count, capacity, word_at, put_word}
+use Rattle.machine.specs.Table.{left, right, capacity, word_at, put_word}
 use Rattle.machine.specs.Queue.{Arrays, Packet, packet, appended, waiting}
 use Rattle.machine.specs.Packets.{replaces, kind_of, plus}
 use Rattle.machine.specs.Step.{named}

@@ -2,25 +2,21 @@
 use mathlib.Core.Path.{◌≡◌, refl, sym, ap, ◌∙◌}
 use mathlib.Core.Logic.{inl}
 use mathlib.Core.Bool.{true, not, true≢false}
-use mathlib.Core.List.{List, [], ◌∷◌}
+use mathlib.Core.List.{List}
 use Prim.Native.Nat.{ℕ, suc}
 use native.Mathlib.Omega.{arith}
-use Rattle.notation.specs.Trees.{Tree}
-use Rattle.notation.specs.Parse.{Parsed, tree, parse, meaning}
-use Rattle.notation.specs.Print.{print}
+use Rattle.notation.specs.Parse.{parse, meaning}
 use Rattle.notation.specs.Brackets.{Met, nothing, too_many, no_room, is_too_many, is_no_room, first_met}
 use Rattle.notation.proofs.Theorems.{parses_printed}
-use Rattle.machine.specs.Calls.{Call, read, write, Reply, value, refused, text, Store}
+use Rattle.machine.specs.Calls.{read, write, value, refused, text, Store}
 use Rattle.machine.specs.Texts.{OpensOut, opened, text_for}
-use Rattle.machine.specs.Step.{Outcome}
 use Rattle.machine.specs.Questions.{first_no, met, early, late, questions}
 use Rattle.machine.specs.Machine.{text_read, accepted}
 use Rattle.machine.specs.Promise.{Promise}
 use Rattle.machine.proofs.Questions.{first_no_none, first_no_all, first_no_zero, early_numbered}
 use Rattle.machine.proofs.Kept.{machine_cases, gives_machine, early_yes}
 use Rattle.machine.proofs.TextLaws.{whole_tree, opened_values}
-use Rattle.soundness.specs.Whole.{Whole}
-use Rattle.soundness.specs.TextRead.{NoneRefused, SameTree, RoundTrip}
+use Rattle.soundness.specs.TextRead.{NoneRefused, RoundTrip}
 use Rattle.soundness.proofs.CallSound.{value_accepted, text_built}
 
 pub none_refused : NoneRefused

@@ -8,15 +8,14 @@ use native.Mathlib.Omega.{arith}
 use lib.Dec.{eqb, leb}
 use lib.ListN.{length, take, drop}
 use borrow.Author.Tests.{eqb-true, eqb-false, leb-true, leb-false}
-use Rattle.machine.specs.declared.Queue.{Queue}
 use Rattle.machine.specs.Range.{matching, occurrences}
 use Rattle.machine.specs.Words.{ceiling}
 use Rattle.machine.specs.Table.{root_count, cell_count, name_count, capacity, word_at}
-use Rattle.machine.specs.Queue.{Packet, slots, waiting}
+use Rattle.machine.specs.Queue.{Packet, slots}
 use Rattle.machine.specs.Packets.{Kind, reads, makes, replaces, raises, lowers, unknown, kind_of, Counter, root, cell, name, plus, minus, Change, changes_of, changes, moved_by, names, times_named, uses, uses_of, same_counter}
 use Rattle.machine.specs.Step.{counter_word, shifted, apply_packet}
 use Rattle.machine.specs.Stages.{stage}
-use Rattle.machine.specs.Audit.{Sound, replayed}
+use Rattle.machine.specs.Audit.{replayed}
 use Rattle.machine.proofs.Range.{tested, matching_same, matching_other}
 use Rattle.machine.proofs.Names.{times_most}
 use Rattle.machine.proofs.Ring.{length_waiting}

@@ -5,7 +5,7 @@ use Rattle.machine.specs.declared.Queue.{Queue}
 use Rattle.machine.specs.Range.{every, select}
 use Rattle.machine.specs.Words.{is_cell, ceiling}
 use Rattle.machine.specs.Table.{root_count, cell_count, capacity, word_at, put_word, in_use}
-use Rattle.machine.specs.Queue.{Packet, waiting}
+use Rattle.machine.specs.Queue.{waiting}
 use Rattle.machine.specs.Packets.{Direction, plus, minus, Change, changes, uses}
 use Rattle.machine.specs.Counts.{held_at_least}
 use Rattle.machine.specs.Reached.{points_to, reached_by}

@@ -1,31 +1,25 @@
 -- What the questions and the measure say of writing is what the machine replies.
 use mathlib.Core.Path.{◌≡◌, refl, sym, ap, ◌∙◌}
-use mathlib.Core.Bool.{Bool, true, false, cond, not}
+use mathlib.Core.Bool.{Bool, true, false, not}
 use mathlib.Core.List.{List, [], ◌∷◌, ◌++◌}
-use Prim.Native.Nat.{ℕ, zero, suc, pred, ◌≤◌, ◌<◌}
+use Prim.Native.Nat.{ℕ, zero, suc, pred, ◌≤◌}
 use native.Mathlib.Omega.{arith}
 use lib.ListN.{length, take, drop, length-append}
 use lib.Seq.{take_at}
 use Rattle.notation.specs.Brackets.{Met, nothing, too_many, no_room, is_too_many, is_no_room, first_met}
 use Rattle.machine.specs.declared.Queue.{Queue}
-use Rattle.machine.specs.declared.Refusal
 use Rattle.machine.specs.declared.Refusal.{Refusal}
-use Rattle.machine.specs.declared.Asked
-use Rattle.machine.specs.declared.Asked.{Asked}
-use Rattle.machine.specs.declared.LengthAnswer
 use Rattle.machine.specs.declared.LengthAnswer.{LengthAnswer}
-use Rattle.machine.specs.Calls.{write, Reply, refused, text, store}
+use Rattle.machine.specs.Calls.{write, refused, text, store}
 use Rattle.machine.specs.Texts.{text_for}
 use Rattle.machine.specs.Step.{Outcome}
-use Rattle.machine.specs.Questions.{Question, ask, first_no, refused_by, in_range, words_legal, word_held, met, early, late, questions}
+use Rattle.machine.specs.Questions.{first_no, refused_by, in_range, words_legal, word_held, met, early, late, questions}
 use Rattle.machine.specs.Queue.{waiting}
-use Rattle.machine.specs.Machine.{accepted, machine}
-use Rattle.machine.specs.Answers.{refusal_number, asked_number, TellsLength, filled_part}
+use Rattle.machine.specs.Machine.{accepted}
+use Rattle.machine.specs.Answers.{refusal_number}
 use Rattle.machine.proofs.Answers.{refusal_some}
 use Rattle.machine.proofs.Kept.{machine_refused, machine_accepted}
-use Rattle.printer.specs.declared.Measured
 use Rattle.printer.specs.declared.Measured.{Measured}
-use Rattle.printer.specs.Measures as measures
 use Rattle.printer.specs.Measures.{PutText}
 use Rattle.writer.specs.Front.{front}
 use Rattle.writer.specs.Writes.{answer_of, reply_to, Puts, Writes}

@@ -1,14 +1,11 @@
 -- What writing a text gives, on every store: the machine's reply, and the buffer with it.
 use Rattle.std.specs.Prelude.{◌≡◌, List, [], ◌++◌, ℕ, length, drop}
 use Rattle.machine.specs.declared.Queue.{Queue}
-use Rattle.machine.specs.declared.Refusal
 use Rattle.machine.specs.declared.Refusal.{Refusal}
-use Rattle.machine.specs.declared.LengthAnswer
 use Rattle.machine.specs.declared.LengthAnswer.{LengthAnswer}
 use Rattle.machine.specs.Calls.{write, Reply, store}
 use Rattle.machine.specs.Machine.{machine}
 use Rattle.machine.specs.Answers.{TellsLength, filled_part}
-use Rattle.printer.specs.declared.Measured
 use Rattle.printer.specs.declared.Measured.{Measured}
 
 -- what was measured, as an answer

@@ -1,4 +1,3 @@
-use borrow.Author.Rules.{rules}
 use Rattle.writer.proofs.answer_of.Goals as goal
 
 pub returns-in-Bytes : goal.returns-in-Bytes

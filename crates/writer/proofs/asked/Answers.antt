@@ -1,10 +1,7 @@
 use mathlib.Core.Bool.{not}
 use mathlib.Core.Path.{ap}
-use mathlib.Core.Path.{◌≡◌, sym, ◌∙◌}
-use mathlib.Core.Bool.{true}
 use borrow.Author.Rules.{rules}
 use borrow.Author.Tests.{not-true, not-false}
-use Rattle.machine.specs.Questions.{in_range}
 use Rattle.machine.proofs.Questions.{shape_is}
 use Rattle.calls.proofs.EarlyLaws.{yes, no, legal}
 use Rattle.writer.proofs.FrontLaws.{front_1, front_4, front_6, front_0}

@@ -1,6 +1,5 @@
 use Rattle.writer.proofs.FrontLaws.{front_room}
 use Rattle.writer.proofs.WriteLaws.{puts_refused, puts_measured}
-use borrow.Author.Rules.{rules}
 use Rattle.writer.proofs.put_text.Goals as goal
 
 pub put_text-requires : goal.put_text-requires

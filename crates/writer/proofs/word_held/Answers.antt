@@ -1,9 +1,4 @@
-use mathlib.Core.Path.{◌≡◌}
-use mathlib.Core.Bool.{true}
 use native.Mathlib.Omega.{arith}
-use borrow.Author.Rules.{rules}
-use Rattle.machine.specs.Words.{is_cell}
-use Rattle.machine.specs.Table.{capacity}
 use Rattle.machine.specs.Queue.{waiting}
 use Rattle.machine.proofs.Words.{cell_index, cell_number_lem}
 use Rattle.calls.proofs.EarlyLaws.{cellular}

@@ -1,7 +1,6 @@
 use mathlib.Core.Path.{sym}
 use lib.Seq.{length-take-le}
 use Rattle.writer.proofs.WriteLaws.{part_within, part_text, part_none}
-use borrow.Author.Rules.{rules}
 use Rattle.writer.proofs.write_text.Goals as goal
 
 pub slice_bounds-result-end : goal.slice_bounds-result-end

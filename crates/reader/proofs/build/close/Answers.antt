@@ -17,11 +17,10 @@ list-made-requires c =
     (c.end_list-end.ensures.0, omega (arith, n, c.requires.2), omega (arith, c.end_list-end.ensures.1, n, c.requires.2))
 
 pub returns : goal.returns
-returns c =
-    (
-      simp length-set c.end_list-end.ensures.0,
-      λ ls.
-          list_closed (store c.args.table.now c.args.queue []) (ended c.args.dotted (take c.args.count c.args.words.now))
-          c.end_list-end.new.words _ c.args.start c.end_list-end.result _ _ _ ls
-          c.end_list-end.ensures.2 c.requires.2 (omega (arith, c.end_list-end.ensures.1, c.end_list-end.ensures.0)) c.list-made.ensures refl,
-    )
+returns c = (
+  simp length-set c.end_list-end.ensures.0,
+  λ ls.
+      list_closed (store c.args.table.now c.args.queue []) (ended c.args.dotted (take c.args.count c.args.words.now))
+      c.end_list-end.new.words _ c.args.start c.end_list-end.result _ _ _ ls
+      c.end_list-end.ensures.2 c.requires.2 (omega (arith, c.end_list-end.ensures.1, c.end_list-end.ensures.0)) c.list-made.ensures refl,
+)
