@@ -7,10 +7,10 @@ pub loop-reads-init : goal.loop-reads-init
 loop-reads-init g c = (refl, reading_none _)
 
 pub loop-reads-smaller : goal.loop-reads-smaller
-loop-reads-smaller g c = rw c.left.ensures (fewer _ c.read_part-input.result.outcome c.loop-reads-test.true)
+loop-reads-smaller g c = rw c.left-reads.ensures (fewer _ c.read_part-input.result.outcome c.loop-reads-test.true)
 
 pub loop-reads-preserved : goal.loop-reads-preserved
-loop-reads-preserved g c = (search rules, rw c.left.ensures (reading_read c.loop-reads.invariant.1 c.loop-reads-test.true c.read_part-input.ensures))
+loop-reads-preserved g c = (search rules, rw c.left-reads.ensures (reading_read c.loop-reads.invariant.1 c.loop-reads-test.true c.read_part-input.ensures))
 
 pub returns : goal.returns
 returns g c =

@@ -5,8 +5,8 @@ use Rattle.load.proofs.send.Goals as goal
 pub loop-more-init : goal.loop-more-init
 loop-more-init g c = (refl, refl, refl, sending_none _ c.requires.0)
 
-pub returns-then-put : goal.returns-then-put
-returns-then-put g c = sending_failed (sending_more c.loop-more.invariant.3 c.next-written.ensures)
+pub returns-then-not-put : goal.returns-then-not-put
+returns-then-not-put g c = sending_failed (sending_more c.loop-more.invariant.3 c.next-written.ensures)
 
 pub loop-more-smaller : goal.loop-more-smaller
 loop-more-smaller g c =

@@ -26,7 +26,7 @@ loop-reads-init g c = (
     )
 
 pub loop-reads-smaller : goal.loop-reads-smaller
-loop-reads-smaller g c = rw c.left.ensures (fewer _ c.read_part-relayed.result.outcome c.loop-reads-test.true)
+loop-reads-smaller g c = rw c.left-reads.ensures (fewer _ c.read_part-relayed.result.outcome c.loop-reads-test.true)
 
 pub loop-reads-preserved : goal.loop-reads-preserved
 loop-reads-preserved g c = (
@@ -35,7 +35,7 @@ loop-reads-preserved g c = (
   search rules,
   search rules,
   search rules,
-  rw c.left.ensures (running_read c.loop-reads.invariant.5 c.loop-reads-test.true c.read_part-relayed.ensures),
+  rw c.left-reads.ensures (running_read c.loop-reads.invariant.5 c.loop-reads-test.true c.read_part-relayed.ensures),
 )
 
 pub returns : goal.returns

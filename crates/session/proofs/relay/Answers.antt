@@ -10,8 +10,8 @@ pub overflow_add-from : goal.overflow_add-from
 overflow_add-from g c =
     omega (arith, last_part_length c.args.input.now c.loop-from.from, c.feed-fed.ensures.most)
 
-pub returns-then-put : goal.returns-then-put
-returns-then-put g c = record {
+pub returns-then-not-put : goal.returns-then-not-put
+returns-then-not-put g c = record {
   taken = c.loop-from.from + c.feed-fed.result.taken;
   threads = more_threads c.args.input.now c.loop-from.from c.feed-fed.ensures c.loop-from.invariant.threads;
   reached = more_most c.args.input.now c.loop-from.from c.feed-fed.ensures c.loop-from-test.true;
