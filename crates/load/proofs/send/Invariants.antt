@@ -4,7 +4,7 @@ use Rattle.load.proofs.ThreadingLaws.{Sending}
 use Rattle.load.proofs.send.Given as goal
 
 abbrev pub invariant-loop-more : goal.invariant-loop-more
-invariant-loop-more g l = 
+invariant-loop-more g l =
     (length l.table ≡ length l.initial.table)
     × (length l.scratch ≡ length l.initial.scratch)
     × (length l.out ≡ length l.initial.out)

@@ -4,7 +4,7 @@ use Rattle.rules.proofs.ThreadingLaws.{Running}
 use Rattle.rules.proofs.run.Given as goal
 
 abbrev pub invariant-loop-reads : goal.invariant-loop-reads
-invariant-loop-reads g l = 
+invariant-loop-reads g l =
     (length l.table ≡ length l.initial.table)
     × (length l.scratch ≡ length l.initial.scratch)
     × (length l.line ≡ length l.initial.line)
