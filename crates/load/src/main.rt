@@ -1,6 +1,6 @@
 // The load bench's traffic: one line from standard input, calls and replies to standard output. Proved (specs/Threading): what goes from call to call is
-// as load_lines' theorem on whole loads wants it. Not proved, since libc's contracts say nothing of bytes: that what is kept is of the input, and that
-// the output is written.
+// as load_lines' theorem on whole loads wants it. Not proved, since std's contracts say nothing of the bytes of the system's streams: that what is kept is
+// of the input, and that the output is written.
 #![tactic(auto)]
 
 ghost use Rattle.std.specs.Prelude.{◌≡◌, true, ◌≤◌, length};
@@ -12,7 +12,8 @@ ghost use Rattle.load.specs.Threading.{kept, state, Follows, ReadsPart, ReadsAll
 
 use line_text::kept::{KEPT_BYTES, keep};
 use load_lines::Load;
-use streams::{Outcome, Read, left, read_front};
+use std::io;
+use streams::{Outcome, Read, large_buffer, left, read_front};
 use traffic::Workload;
 use traffic::input::workload;
 
@@ -24,7 +25,13 @@ struct Input {
 }
 
 // What a read put into the buffer's front joins what is kept of the input. A failure is told on standard error.
-fn follow(read: Read, line: &mut [u8; KEPT_BYTES], held: usize, buffer: &[u8]) -> Input
+fn follow<E: io::Write>(
+    errors: &mut E,
+    read: Read,
+    line: &mut [u8; KEPT_BYTES],
+    held: usize,
+    buffer: &[u8],
+) -> Input
     requires { Within (length buffer.now) read }
     ensures { Follows read (kept line.old held) buffer.now result.outcome (kept line.new result.held) }
 {
@@ -41,7 +48,7 @@ fn follow(read: Read, line: &mut [u8; KEPT_BYTES], held: usize, buffer: &[u8]) -
             outcome: Outcome::End,
         },
         Read::Failed => {
-            streams::tell(b"load: reading failed\n");
+            streams::tell(errors, b"load: reading failed\n");
             Input {
                 held: held,
                 outcome: Outcome::Failed,
@@ -51,22 +58,33 @@ fn follow(read: Read, line: &mut [u8; KEPT_BYTES], held: usize, buffer: &[u8]) -
 }
 
 // One read, and what it gives.
-fn read_part(line: &mut [u8; KEPT_BYTES], held: usize, buffer: &mut [u8]) -> Input
+fn read_part<R: io::Read, E: io::Write>(
+    reader: &mut R,
+    errors: &mut E,
+    line: &mut [u8; KEPT_BYTES],
+    held: usize,
+    buffer: &mut [u8],
+) -> Input
     ensures { ReadsPart (kept line.old held) buffer.new result.outcome (kept line.new result.held) }
 {
-    let read = read_front(buffer);
-    follow(read, line, held, buffer)
+    let read = read_front(reader, buffer);
+    follow(errors, read, line, held, buffer)
 }
 
 // The whole input, of which the first bytes are kept.
-fn read_all(line: &mut [u8; KEPT_BYTES], buffer: &mut [u8]) -> Input
+fn read_all<R: io::Read, E: io::Write>(
+    reader: &mut R,
+    errors: &mut E,
+    line: &mut [u8; KEPT_BYTES],
+    buffer: &mut [u8],
+) -> Input
     ensures { ReadsAll line.old result.outcome (kept line.new result.held) }
 {
     let mut held = 0;
     let mut outcome = Outcome::More;
     let mut reads = u64::MAX;
     while 0 < reads {
-        let input = read_part(line, held, buffer);
+        let input = read_part(reader, errors, line, held, buffer);
         held = input.held;
         outcome = input.outcome;
         reads = left(reads, outcome);
@@ -78,12 +96,19 @@ fn read_all(line: &mut [u8; KEPT_BYTES], buffer: &mut [u8]) -> Input
 }
 
 // Writes to standard output; a failure is told on standard error.
-fn put(bytes: &[u8]) -> bool {
-    streams::put(bytes, b"load: writing failed\n")
+fn put<W: io::Write, E: io::Write>(writer: &mut W, errors: &mut E, bytes: &[u8]) -> bool {
+    streams::put(writer, errors, bytes, b"load: writing failed\n")
 }
 
 // All that the load gives is written.
-fn send(load: Load, table: &mut [u16], scratch: &mut [u16], out: &mut [u8]) -> Outcome
+fn send<W: io::Write, E: io::Write>(
+    writer: &mut W,
+    errors: &mut E,
+    load: Load,
+    table: &mut [u16],
+    scratch: &mut [u16],
+    out: &mut [u8],
+) -> Outcome
     requires { (is_more load ≡ true) × (both_room ≤ length out.old) }
     ensures { Sends (state load table.old scratch.old) result }
 {
@@ -96,7 +121,7 @@ fn send(load: Load, table: &mut [u16], scratch: &mut [u16], out: &mut [u8]) -> O
         let end = written.written;
         present = after;
         more = written.more;
-        if !put(&out[..end]) {
+        if !put(writer, errors, &out[..end]) {
             return Outcome::Failed;
         }
     }
@@ -104,7 +129,9 @@ fn send(load: Load, table: &mut [u16], scratch: &mut [u16], out: &mut [u8]) -> O
 }
 
 // At the end of the input, and only there, something is written.
-fn conclude(
+fn conclude<W: io::Write, E: io::Write>(
+    writer: &mut W,
+    errors: &mut E,
     outcome: Outcome,
     asked: Workload,
     table: &mut [u16],
@@ -119,27 +146,41 @@ fn conclude(
         Outcome::Failed => Outcome::Failed,
         Outcome::End => {
             let load = Load::start(asked);
-            send(load, table, scratch, out)
+            send(writer, errors, load, table, scratch, out)
         }
     }
 }
 
 // It begins with the table and the scratch of the theorem on whole loads.
-fn run(table: &mut [u16], scratch: &mut [u16], buffer: &mut [u8]) -> Outcome
+fn run<R: io::Read, W: io::Write, E: io::Write>(
+    reader: &mut R,
+    writer: &mut W,
+    errors: &mut E,
+    table: &mut [u16],
+    scratch: &mut [u16],
+    buffer: &mut [u8],
+) -> Outcome
     requires { (table.old ≡ (begin Workload.Bad).table) × (scratch.old ≡ (begin Workload.Bad).scratch) × (both_room ≤ length buffer.old) }
     ensures { Runs result }
 {
     let mut line = [0; KEPT_BYTES];
-    let input = read_all(&mut line, buffer);
+    let input = read_all(reader, errors, &mut line, buffer);
     let held = input.held;
     let outcome = input.outcome;
     let asked = workload(&line[..held]);
-    conclude(outcome, asked, table, scratch, buffer)
+    conclude(writer, errors, outcome, asked, table, scratch, buffer)
 }
 
-fn main() {
+fn main(rt: HostRuntime) {
     let mut table = [0u16; cells::MOST_WORDS];
     let mut scratch = [0u16; cells::MOST_SCRATCH];
-    let mut buffer = io::large_buffer();
-    run(&mut table, &mut scratch, &mut buffer);
+    let mut buffer = large_buffer();
+    run(
+        &mut rt.stdin(),
+        &mut rt.stdout(),
+        &mut rt.stderr(),
+        &mut table,
+        &mut scratch,
+        &mut buffer,
+    );
 }

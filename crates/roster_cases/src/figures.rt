@@ -4,6 +4,7 @@ ghost use Rattle.machine.specs.Table.{root_count, table_length, word_at};
 ghost use Rattle.roster_cases.specs.Figures.{cells_of, root_counts, root_count_of, used_cells};
 
 use machine::{AuditAnswer, Queue};
+use std::io;
 
 // How many cells a table says that it has; none where it is too short for them.
 fn cells_of(table: &[u16]) -> u16
@@ -88,7 +89,13 @@ fn kind_of(word: u16) -> u64 {
 }
 
 // Writes the line `A v p h w k u`. Gives how many numbers it has. The audit is lent a scratch of the program's own.
-pub fn write_figures(table: &[u16], queue: Queue, word: u16, audit_scratch: &mut [u16]) -> usize
+pub fn write_figures<W: io::Write>(
+    writer: &mut W,
+    table: &[u16],
+    queue: Queue,
+    word: u16,
+    audit_scratch: &mut [u16],
+) -> usize
     ensures { result ≡ 6 }
 {
     let answer = store::audit(table, queue, audit_scratch);
@@ -100,7 +107,7 @@ pub fn write_figures(table: &[u16], queue: Queue, word: u16, audit_scratch: &mut
         kind_of(word),
         cells_in_use(table),
     ];
-    let n = state_lines::write_numbers(b"A", &figures);
-    state_lines::write_name(b"\n");
+    let n = state_lines::write_numbers(writer, b"A", &figures);
+    state_lines::write_name(writer, b"\n");
     n
 }

@@ -9,10 +9,10 @@ ghost use Rattle.state_lines.specs.Sizes.{Fits};
 
 use asking::{SET, early_number};
 use figures::write_figures;
-use libc::STDIN_FILENO;
 use machine::{FreshAnswer, Queue, Refusal};
 use readings::{Replied, RosterAnswer};
 use state_lines::{Call, SCRATCH, Store, TABLE};
+use std::io;
 
 // The code of a fresh, and the number of a set's refusal for want of a free cell.
 const FRESH: u16 = 0;
@@ -67,19 +67,19 @@ fn make_call(
     }
 }
 
-fn write_answer(answer: RosterAnswer) {
+fn write_answer<W: io::Write>(writer: &mut W, answer: RosterAnswer) {
     match answer {
         RosterAnswer::Done(value) => {
-            state_lines::write_numbers(b" OK", &[value as u64]);
+            state_lines::write_numbers(writer, b" OK", &[value as u64]);
         }
         RosterAnswer::Absent => {
-            state_lines::write_name(b" ABSENT");
+            state_lines::write_name(writer, b" ABSENT");
         }
         RosterAnswer::Refused(refusal) => {
-            state_lines::write_numbers(b" NO", &[refusal.number() as u64]);
+            state_lines::write_numbers(writer, b" NO", &[refusal.number() as u64]);
         }
     }
-    state_lines::write_name(b"\n");
+    state_lines::write_name(writer, b"\n");
 }
 
 // Every refusal but 8 changes nothing.
@@ -91,19 +91,20 @@ fn changes_nothing(answer: RosterAnswer) -> bool {
     }
 }
 
-fn write_comparison(before: u64, after: u64, word: u16, held: u16) {
+fn write_comparison<W: io::Write>(writer: &mut W, before: u64, after: u64, word: u16, held: u16) {
     if before == after {
         if word == held {
-            state_lines::write_name(b"SAME\n");
+            state_lines::write_name(writer, b"SAME\n");
             return;
         }
     }
-    state_lines::write_name(b"MOVED\n");
+    state_lines::write_name(writer, b"MOVED\n");
 }
 
 // A call that the papers decide. Whether table, queue and scratch are as before is told by the checksum of the store, the same for the same words and hardly
 // ever for others; the roster's word is compared itself.
-fn decided(
+fn decided<W: io::Write>(
+    writer: &mut W,
     table: &mut [u16],
     queue: Queue,
     word: u16,
@@ -116,14 +117,14 @@ fn decided(
     let answer = replied.answer;
     let next = replied.queue;
     let held = replied.word;
-    write_answer(answer);
+    write_answer(writer, answer);
     if changes_nothing(answer) {
         let after = state_lines::checksum_of(table, next, scratch);
-        write_comparison(before, after, word, held);
+        write_comparison(writer, before, after, word, held);
     } else {
-        write_figures(table, next, held, audit_scratch);
-        state_lines::write_runs(b"S", scratch);
-        state_lines::write_name(b"\n");
+        write_figures(writer, table, next, held, audit_scratch);
+        state_lines::write_runs(writer, b"S", scratch);
+        state_lines::write_name(writer, b"\n");
     }
     replied
 }
@@ -150,7 +151,8 @@ fn is_allowed(code: u16, early: u16, answer: RosterAnswer) -> bool {
 }
 
 // A call that the papers don't decide. An answer that may not come of it is written as it is, so that the output differs from the reference's.
-fn undecided(
+fn undecided<W: io::Write>(
+    writer: &mut W,
     table: &mut [u16],
     queue: Queue,
     word: u16,
@@ -161,15 +163,16 @@ fn undecided(
     let replied = make_call(table, queue, word, scratch, call);
     let answer = replied.answer;
     if is_allowed(call.code, early, answer) {
-        state_lines::write_name(b" UNDECIDED\n");
+        state_lines::write_name(writer, b" UNDECIDED\n");
     } else {
-        write_answer(answer);
+        write_answer(writer, answer);
     }
     replied
 }
 
 // Makes a call, and writes what came of it.
-fn answer(
+fn answer<W: io::Write>(
+    writer: &mut W,
     table: &mut [u16],
     queue: Queue,
     word: u16,
@@ -177,15 +180,16 @@ fn answer(
     audit_scratch: &mut [u16],
     call: Call,
 ) -> Replied {
-    state_lines::write_operands(call);
+    state_lines::write_operands(writer, call);
     if call.letter == b'U' {
-        return undecided(table, queue, word, scratch, call);
+        return undecided(writer, table, queue, word, scratch, call);
     }
-    decided(table, queue, word, scratch, audit_scratch, call)
+    decided(writer, table, queue, word, scratch, audit_scratch, call)
 }
 
 // Lends a call the words that are the table and those that are the scratch.
-fn take_call(
+fn take_call<W: io::Write>(
+    writer: &mut W,
     table: &mut [u16],
     scratch: &mut [u16],
     audit_scratch: &mut [u16],
@@ -199,6 +203,7 @@ fn take_call(
     let n = store.table;
     let m = store.scratch;
     let replied = answer(
+        writer,
         &mut table[..n],
         store.queue,
         roster.word,
@@ -227,7 +232,8 @@ fn word_after(letter: u8, line: &[u16], word: u16) -> u16 {
     }
 }
 
-fn take_line(
+fn take_line<W: io::Write>(
+    writer: &mut W,
     letter: u8,
     line: &[u16],
     table: &mut [u16; TABLE],
@@ -241,7 +247,7 @@ fn take_line(
     match letter {
         b'R' | b'U' => {
             let call = state_lines::call_of(letter, line);
-            take_call(table, scratch, audit_scratch, roster, call)
+            take_call(writer, table, scratch, audit_scratch, roster, call)
         }
         _ => {
             let store = roster.store;
@@ -254,7 +260,7 @@ fn take_line(
     }
 }
 
-fn run(input: &[u8]) {
+fn run<W: io::Write>(writer: &mut W, input: &[u8]) {
     let mut line = state_lines::line_array();
     let mut table = state_lines::table_array();
     let mut scratch = state_lines::scratch_array();
@@ -266,6 +272,7 @@ fn run(input: &[u8]) {
         let read = state_lines::read_line(input, at, &mut line);
         let n = read.count;
         roster = take_line(
+            writer,
             read.letter,
             &line[..n],
             &mut table,
@@ -277,8 +284,8 @@ fn run(input: &[u8]) {
     }
 }
 
-fn main() {
+fn main(rt: HostRuntime) {
     let mut input = state_lines::input_array();
-    let n = io::read_full(STDIN_FILENO, &mut input);
-    run(&input[..n]);
+    let n = streams::read_full(&mut rt.stdin(), &mut input);
+    run(&mut rt.stdout(), &input[..n]);
 }

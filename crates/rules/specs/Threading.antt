@@ -1,5 +1,5 @@
 -- What the rules program hands on: the calls of `feed` make a list of parts as the theorem on whole inputs wants it (rule_lines/specs/Whole).
--- That a part's input is what was read, and that its output is written, cannot be stated: libc's contracts say nothing of the bytes.
+-- That a part's input is what was read, and that its output is written, is not stated: std's contracts say nothing of the bytes of the system's streams.
 use Rattle.std.specs.Prelude.{◌≡◌, List, ◌++◌, ℕ, ◌+◌, ◌^◌, ◌≤◌, length, take}
 use Rattle.rule_lines.specs.Answers.{listing}
 use Rattle.rule_lines.specs.Progress.{State, Finishes}

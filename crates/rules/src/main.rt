@@ -1,6 +1,6 @@
 // Rule texts from standard input, each answered on standard output as the store writes it back. Proved (specs/Threading): what goes from call to call is
-// as rule_lines' theorem on whole inputs wants it. Not proved, since libc's contracts say nothing of bytes: that what is fed is the input, and that the
-// output is written.
+// as rule_lines' theorem on whole inputs wants it. Not proved, since std's contracts say nothing of the bytes of the system's streams: that what is fed is
+// the input, and that the output is written.
 #![tactic(auto)]
 
 ghost use Rattle.std.specs.Prelude.{◌≡◌, ◌≤◌, length};
@@ -12,7 +12,8 @@ ghost use Rattle.streams.specs.Reading.{Within};
 ghost use Rattle.rules.specs.Threading.{Relays, Follows, Reads, Concludes, Runs};
 
 use rule_lines::Rules;
-use streams::{Outcome, Read, left};
+use std::io;
+use streams::{Outcome, Read, large_buffer, left};
 
 #[derive(Drop)]
 struct Relayed {
@@ -21,12 +22,14 @@ struct Relayed {
 }
 
 // Writes to standard output; a failure is told on standard error.
-fn put(bytes: &[u8]) -> bool {
-    streams::put(bytes, b"rules: writing failed\n")
+fn put<W: io::Write, E: io::Write>(writer: &mut W, errors: &mut E, bytes: &[u8]) -> bool {
+    streams::put(writer, errors, bytes, b"rules: writing failed\n")
 }
 
 // A part of the input is fed, and what it gives is written.
-fn relay(
+fn relay<W: io::Write, E: io::Write>(
+    writer: &mut W,
+    errors: &mut E,
     rules: Rules,
     table: &mut [u16],
     scratch: &mut [u16],
@@ -47,7 +50,7 @@ fn relay(
         let end = fed.written;
         present = next;
         from += fed.taken;
-        if !put(&out[..end]) {
+        if !put(writer, errors, &out[..end]) {
             return Relayed {
                 rules: present,
                 outcome: Outcome::Failed,
@@ -61,7 +64,9 @@ fn relay(
 }
 
 // What a read put into the buffer's front is relayed. A failure is told on standard error.
-fn follow(
+fn follow<W: io::Write, E: io::Write>(
+    writer: &mut W,
+    errors: &mut E,
     read: Read,
     rules: Rules,
     table: &mut [u16],
@@ -75,13 +80,22 @@ fn follow(
         result.outcome (state result.rules table.new scratch.new line.new) }
 {
     match read {
-        Read::Bytes(n) => relay(rules, table, scratch, line, &input[..n], out),
+        Read::Bytes(n) => relay(
+            writer,
+            errors,
+            rules,
+            table,
+            scratch,
+            line,
+            &input[..n],
+            out,
+        ),
         Read::End => Relayed {
             rules: rules,
             outcome: Outcome::End,
         },
         Read::Failed => {
-            streams::tell(b"rules: reading failed\n");
+            streams::tell(errors, b"rules: reading failed\n");
             Relayed {
                 rules: rules,
                 outcome: Outcome::Failed,
@@ -91,7 +105,10 @@ fn follow(
 }
 
 // One read, and all that it gives.
-fn read_part(
+fn read_part<R: io::Read, W: io::Write, E: io::Write>(
+    reader: &mut R,
+    writer: &mut W,
+    errors: &mut E,
     rules: Rules,
     table: &mut [u16],
     scratch: &mut [u16],
@@ -103,12 +120,16 @@ fn read_part(
     ensures { Reads (state rules table.old scratch.old line.old) input.new
         result.outcome (state result.rules table.new scratch.new line.new) }
 {
-    let read = streams::read_front(input);
-    follow(read, rules, table, scratch, line, input, out)
+    let read = streams::read_front(reader, input);
+    follow(
+        writer, errors, read, rules, table, scratch, line, input, out,
+    )
 }
 
 // At the end of the input, and only there, a last line without its line feed is answered.
-fn conclude(
+fn conclude<W: io::Write, E: io::Write>(
+    writer: &mut W,
+    errors: &mut E,
     outcome: Outcome,
     rules: Rules,
     table: &mut [u16],
@@ -125,7 +146,7 @@ fn conclude(
         Outcome::End => {
             let finished = rule_lines::finish(rules, table, scratch, line, out);
             let end = finished.written;
-            if put(&out[..end]) {
+            if put(writer, errors, &out[..end]) {
                 Outcome::End
             } else {
                 Outcome::Failed
@@ -135,7 +156,10 @@ fn conclude(
 }
 
 // A proved loop has to end, and nothing says that the input does: so the reads are counted down, from a number that no input below 2^64 bytes uses up.
-fn run(
+fn run<R: io::Read, W: io::Write, E: io::Write>(
+    reader: &mut R,
+    writer: &mut W,
+    errors: &mut E,
     table: &mut [u16],
     scratch: &mut [u16],
     line: &mut [u8],
@@ -150,21 +174,32 @@ fn run(
     let mut reads = u64::MAX;
     while 0 < reads {
         let before = present;
-        let relayed = read_part(before, table, scratch, line, input, out);
+        let relayed = read_part(
+            reader, writer, errors, before, table, scratch, line, input, out,
+        );
         let after = relayed.rules;
         present = after;
         outcome = relayed.outcome;
         reads = left(reads, outcome);
     }
-    conclude(outcome, present, table, scratch, line, out)
+    conclude(writer, errors, outcome, present, table, scratch, line, out)
 }
 
 // The table and the scratch are long enough for more cells than the store has.
-fn main() {
+fn main(rt: HostRuntime) {
     let mut table = [0u16; cells::MOST_WORDS];
     let mut scratch = [0u16; cells::MOST_SCRATCH];
     let mut line = [0u8; rule_lines::LINE_BYTES];
-    let mut input = io::large_buffer();
-    let mut out = io::large_buffer();
-    run(&mut table, &mut scratch, &mut line, &mut input, &mut out);
+    let mut input = large_buffer();
+    let mut out = large_buffer();
+    run(
+        &mut rt.stdin(),
+        &mut rt.stdout(),
+        &mut rt.stderr(),
+        &mut table,
+        &mut scratch,
+        &mut line,
+        &mut input,
+        &mut out,
+    );
 }

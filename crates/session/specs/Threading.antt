@@ -1,5 +1,5 @@
 -- What the session program hands on: the calls of `feed` make a list of parts as the theorem on whole sessions wants it (session_lines/specs/Whole).
--- That a part's input is what was read, and that its output is written, cannot be stated: libc's contracts say nothing of the bytes.
+-- That a part's input is what was read, and that its output is written, is not stated: std's contracts say nothing of the bytes of the system's streams.
 use Rattle.std.specs.Prelude.{◌≡◌, List, ◌++◌, ℕ, ◌+◌, ◌-◌, ◌^◌, ◌≤◌, ◌<◌, length, take}
 use Rattle.session_lines.specs.declared.Session.{Session}
 use Rattle.session_lines.specs.Listing.{listing}

@@ -1,5 +1,6 @@
 // A session from standard input to standard output. Proved (specs/Threading): what goes from call to call is as session_lines' theorem on whole
-// sessions wants it. Not proved, since libc's contracts say nothing of bytes: that what is fed is the input, and that the output is written.
+// sessions wants it. Not proved, since std's contracts say nothing of the bytes of the system's streams: that what is fed is the input, and that the
+// output is written.
 #![tactic(auto)]
 
 ghost use Rattle.std.specs.Prelude.{◌≡◌, ◌≤◌, length};
@@ -9,7 +10,8 @@ ghost use Rattle.streams.specs.Reading.{Within};
 ghost use Rattle.session.specs.Threading.{state, Relays, Follows, Reads, Concludes, Runs};
 
 use session_lines::Session;
-use streams::{Outcome, Read, left};
+use std::io;
+use streams::{Outcome, Read, large_buffer, left};
 
 #[derive(Drop)]
 struct Relayed {
@@ -18,12 +20,14 @@ struct Relayed {
 }
 
 // Writes to standard output; a failure is told on standard error.
-fn put(bytes: &[u8]) -> bool {
-    streams::put(bytes, b"session: writing failed\n")
+fn put<W: io::Write, E: io::Write>(writer: &mut W, errors: &mut E, bytes: &[u8]) -> bool {
+    streams::put(writer, errors, bytes, b"session: writing failed\n")
 }
 
 // A part of the input is fed, and what it gives is written.
-fn relay(
+fn relay<W: io::Write, E: io::Write>(
+    writer: &mut W,
+    errors: &mut E,
     session: Session,
     table: &mut [u16],
     scratch: &mut [u16],
@@ -43,7 +47,7 @@ fn relay(
         let end = fed.written;
         present = next;
         from += fed.taken;
-        if !put(&out[..end]) {
+        if !put(writer, errors, &out[..end]) {
             return Relayed {
                 session: present,
                 outcome: Outcome::Failed,
@@ -57,7 +61,9 @@ fn relay(
 }
 
 // What a read put into the buffer's front is relayed. A failure is told on standard error.
-fn follow(
+fn follow<W: io::Write, E: io::Write>(
+    writer: &mut W,
+    errors: &mut E,
     read: Read,
     session: Session,
     table: &mut [u16],
@@ -70,13 +76,13 @@ fn follow(
         result.outcome (state result.session table.new scratch.new) }
 {
     match read {
-        Read::Bytes(n) => relay(session, table, scratch, &input[..n], out),
+        Read::Bytes(n) => relay(writer, errors, session, table, scratch, &input[..n], out),
         Read::End => Relayed {
             session: session,
             outcome: Outcome::End,
         },
         Read::Failed => {
-            streams::tell(b"session: reading failed\n");
+            streams::tell(errors, b"session: reading failed\n");
             Relayed {
                 session: session,
                 outcome: Outcome::Failed,
@@ -86,7 +92,10 @@ fn follow(
 }
 
 // One read, and all that it gives.
-fn read_part(
+fn read_part<R: io::Read, W: io::Write, E: io::Write>(
+    reader: &mut R,
+    writer: &mut W,
+    errors: &mut E,
     session: Session,
     table: &mut [u16],
     scratch: &mut [u16],
@@ -97,12 +106,14 @@ fn read_part(
     ensures { Reads (state session table.old scratch.old) input.new
         result.outcome (state result.session table.new scratch.new) }
 {
-    let read = streams::read_front(input);
-    follow(read, session, table, scratch, input, out)
+    let read = streams::read_front(reader, input);
+    follow(writer, errors, read, session, table, scratch, input, out)
 }
 
 // At the end of the input, and only there, a last line without its line feed is served.
-fn conclude(
+fn conclude<W: io::Write, E: io::Write>(
+    writer: &mut W,
+    errors: &mut E,
     outcome: Outcome,
     session: Session,
     table: &mut [u16],
@@ -118,7 +129,7 @@ fn conclude(
         Outcome::End => {
             let finished = session_lines::finish(session, table, scratch, out);
             let end = finished.written;
-            if put(&out[..end]) {
+            if put(writer, errors, &out[..end]) {
                 Outcome::End
             } else {
                 Outcome::Failed
@@ -129,7 +140,15 @@ fn conclude(
 
 // It begins with the table and the scratch of the theorem on whole sessions.
 // A proved loop has to end, and nothing says that the input does: so the reads are counted down, from a number that no input of the theorem uses up.
-fn run(table: &mut [u16], scratch: &mut [u16], input: &mut [u8], out: &mut [u8]) -> Outcome
+fn run<R: io::Read, W: io::Write, E: io::Write>(
+    reader: &mut R,
+    writer: &mut W,
+    errors: &mut E,
+    table: &mut [u16],
+    scratch: &mut [u16],
+    input: &mut [u8],
+    out: &mut [u8],
+) -> Outcome
     requires { (table.old ≡ begin.table) × (scratch.old ≡ begin.scratch) × (room ≤ length out.old) }
     ensures { Runs result out.new }
 {
@@ -138,19 +157,27 @@ fn run(table: &mut [u16], scratch: &mut [u16], input: &mut [u8], out: &mut [u8])
     let mut reads = u64::MAX;
     while 0 < reads {
         let before = present;
-        let relayed = read_part(before, table, scratch, input, out);
+        let relayed = read_part(reader, writer, errors, before, table, scratch, input, out);
         let after = relayed.session;
         present = after;
         outcome = relayed.outcome;
         reads = left(reads, outcome);
     }
-    conclude(outcome, present, table, scratch, out)
+    conclude(writer, errors, outcome, present, table, scratch, out)
 }
 
-fn main() {
+fn main(rt: HostRuntime) {
     let mut table = [0u16; cells::MOST_WORDS];
     let mut scratch = [0u16; cells::MOST_SCRATCH];
-    let mut input = io::large_buffer();
-    let mut out = io::large_buffer();
-    run(&mut table, &mut scratch, &mut input, &mut out);
+    let mut input = large_buffer();
+    let mut out = large_buffer();
+    run(
+        &mut rt.stdin(),
+        &mut rt.stdout(),
+        &mut rt.stderr(),
+        &mut table,
+        &mut scratch,
+        &mut input,
+        &mut out,
+    );
 }

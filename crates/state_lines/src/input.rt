@@ -6,7 +6,7 @@ const SPACE: u8 = 32;
 const LINE_FEED: u8 = 10;
 
 // The numbers stand from 1 to below the count; next is the place after the line feed.
-#[derive(Drop)]
+#[derive(Clone, Copy, Drop)]
 pub struct LineRead {
     pub letter: u8,
     pub count: usize,

@@ -8,7 +8,7 @@ use crate::runs::expand;
 use machine::Queue;
 
 // The queue, and how many words at the front of two arrays are the table and the scratch.
-#[derive(Drop)]
+#[derive(Clone, Copy, Drop)]
 pub struct Store {
     pub table: usize,
     pub scratch: usize,
@@ -17,7 +17,7 @@ pub struct Store {
 
 // A call by its letter, its code and its operands: of reading a text p is its length, of writing one p, q and r are the word, the room and the byte that
 // the buffer is filled with before.
-#[derive(Drop)]
+#[derive(Clone, Copy, Drop)]
 pub struct Call {
     pub letter: u8,
     pub code: u16,

@@ -4,6 +4,7 @@ ghost use Rattle.machine.specs.Queue.{slots};
 
 use crate::output::{put_name, put_number, put_word, put_words};
 use machine::Queue;
+use std::io;
 
 pub const SLOTS: usize = Queue::SLOTS as usize;
 
@@ -63,27 +64,27 @@ fn count_used(queue: Queue) -> u64 {
     n
 }
 
-fn put_slot(j: usize, words: [u16; 4])
+fn put_slot<W: io::Write>(writer: &mut W, j: usize, words: [u16; 4])
     requires { j < slots }
 {
     if is_used(words) {
-        put_number(j as u64);
-        put_words(&words);
+        put_number(writer, j as u64);
+        put_words(writer, &words);
     }
 }
 
-fn put_slots(queue: Queue) {
+fn put_slots<W: io::Write>(writer: &mut W, queue: Queue) {
     let mut j: usize = 0;
     while j < SLOTS {
-        put_slot(j, slot_words(queue, j));
+        put_slot(writer, j, slot_words(queue, j));
         j += 1;
     }
 }
 
-pub fn put_queue(queue: Queue) {
-    put_name(b"\nQ");
-    put_word(queue.place);
-    put_word(queue.count);
-    put_number(count_used(queue));
-    put_slots(queue)
+pub fn put_queue<W: io::Write>(writer: &mut W, queue: Queue) {
+    put_name(writer, b"\nQ");
+    put_word(writer, queue.place);
+    put_word(writer, queue.count);
+    put_number(writer, count_used(queue));
+    put_slots(writer, queue)
 }

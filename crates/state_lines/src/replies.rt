@@ -11,8 +11,9 @@ use crate::runs::{widen, write_runs};
 use machine::{
     AuditAnswer, FreshAnswer, LengthAnswer, Queue, Refusal, RowAnswer, Rule, StepAnswer,
 };
+use std::io;
 
-#[derive(Drop)]
+#[derive(Clone, Copy, Drop)]
 pub enum Reply {
     Value(u16),
     Refused(Refusal),
@@ -68,22 +69,22 @@ pub fn length_reply(answer: LengthAnswer) -> Reply {
     }
 }
 
-fn put_named(name: &[u8], w: u16) {
-    put_name(name);
-    put_word(w)
+fn put_named<W: io::Write>(writer: &mut W, name: &[u8], w: u16) {
+    put_name(writer, name);
+    put_word(writer, w)
 }
 
-fn put_reply(reply: Reply) {
+fn put_reply<W: io::Write>(writer: &mut W, reply: Reply) {
     match reply {
-        Reply::Value(w) => put_named(b" OK", w),
-        Reply::Refused(r) => put_named(b" NO", r.number()),
-        Reply::Idle => put_name(b" IDLE"),
+        Reply::Value(w) => put_named(writer, b" OK", w),
+        Reply::Refused(r) => put_named(writer, b" NO", r.number()),
+        Reply::Idle => put_name(writer, b" IDLE"),
         Reply::Applied(kind, freed) => {
-            put_named(b" TAKEN", kind);
-            put_word(freed)
+            put_named(writer, b" TAKEN", kind);
+            put_word(writer, freed)
         }
-        Reply::Sound => put_name(b" SOUND"),
-        Reply::Broken(r) => put_named(b" BROKEN", r.number()),
+        Reply::Sound => put_name(writer, b" SOUND"),
+        Reply::Broken(r) => put_named(writer, b" BROKEN", r.number()),
     }
 }
 
@@ -93,68 +94,75 @@ const READ: u16 = 10;
 const WRITE: u16 = 11;
 
 // Writes a call's line up to its reply. Gives how many numbers it has.
-pub fn write_operands(call: Call) -> usize
+pub fn write_operands<W: io::Write>(writer: &mut W, call: Call) -> usize
     ensures { (2 ≤ result) × (result ≤ 4) }
 {
     let letter = [call.letter];
-    put_name(&letter);
-    put_word(call.code);
-    put_word(call.p);
+    put_name(writer, &letter);
+    put_word(writer, call.code);
+    put_word(writer, call.p);
     if call.code == READ {
         return 2;
     }
-    put_word(call.q);
+    put_word(writer, call.q);
     if call.code == WRITE {
-        put_word(call.r);
+        put_word(writer, call.r);
         return 4;
     }
     3
 }
 
-fn put_store(table: &[u16], queue: Queue, scratch: &[u16]) {
-    write_runs(b"\nT", table);
-    put_queue(queue);
-    write_runs(b"\nS", scratch);
-    put_name(b"\n")
+fn put_store<W: io::Write>(writer: &mut W, table: &[u16], queue: Queue, scratch: &[u16]) {
+    write_runs(writer, b"\nT", table);
+    put_queue(writer, queue);
+    write_runs(writer, b"\nS", scratch);
+    put_name(writer, b"\n")
 }
 
-fn put_checksum(table: &[u16], queue: Queue, scratch: &[u16]) {
-    put_name(b"\nH");
-    put_number(checksum_of(table, queue, scratch));
-    put_name(b"\n")
+fn put_checksum<W: io::Write>(writer: &mut W, table: &[u16], queue: Queue, scratch: &[u16]) {
+    put_name(writer, b"\nH");
+    put_number(writer, checksum_of(table, queue, scratch));
+    put_name(writer, b"\n")
 }
 
 // Writes a call's line with its reply, and of the store that it left what the letter asks; an undecided call's reply and store are not shown.
 // Gives the number of lines.
-pub fn write_call(call: Call, reply: Reply, table: &[u16], queue: Queue, scratch: &[u16]) -> usize
+pub fn write_call<W: io::Write>(
+    writer: &mut W,
+    call: Call,
+    reply: Reply,
+    table: &[u16],
+    queue: Queue,
+    scratch: &[u16],
+) -> usize
     ensures { (0 < result) × (result ≤ 4) }
 {
-    write_operands(call);
+    write_operands(writer, call);
     if call.letter == b'U' {
-        put_name(b" UNDECIDED\n");
+        put_name(writer, b" UNDECIDED\n");
         return 1;
     }
-    put_reply(reply);
+    put_reply(writer, reply);
     if call.letter == b'C' {
-        put_store(table, queue, scratch);
+        put_store(writer, table, queue, scratch);
         return 4;
     }
-    put_checksum(table, queue, scratch);
+    put_checksum(writer, table, queue, scratch);
     2
 }
 
-fn put_front(words: &[u16], n: usize)
+fn put_front<W: io::Write>(writer: &mut W, words: &[u16], n: usize)
     requires { n ≤ length words.now }
 {
-    write_runs(b"F", &words[..n]);
-    put_name(b"\n")
+    write_runs(writer, b"F", &words[..n]);
+    put_name(writer, b"\n")
 }
 
 // The buffer after a writing that is shown, by way of lent words.
-pub fn write_buffer(call: Call, buffer: &[u8], words: &mut [u16]) {
+pub fn write_buffer<W: io::Write>(writer: &mut W, call: Call, buffer: &[u8], words: &mut [u16]) {
     if call.letter == b'U' {
         return;
     }
     let n = widen(buffer, words);
-    put_front(words, n)
+    put_front(writer, words, n)
 }

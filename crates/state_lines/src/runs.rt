@@ -2,6 +2,7 @@
 ghost use Rattle.std.specs.Prelude.{◌+◌, ◌<◌, ◌≤◌, length};
 
 use crate::output::{put_name, put_number, put_word};
+use std::io;
 
 // Where a run put from a place on ends; a run for which there is no room is left out.
 fn fill(words: &mut [u16], from: usize, count: u16, v: u16) -> usize
@@ -60,29 +61,29 @@ fn count_runs(words: &[u16]) -> usize
     n
 }
 
-fn put_run(count: usize, v: u16) {
-    put_number(count as u64);
-    put_word(v)
+fn put_run<W: io::Write>(writer: &mut W, count: usize, v: u16) {
+    put_number(writer, count as u64);
+    put_word(writer, v)
 }
 
-fn put_each(words: &[u16]) {
+fn put_each<W: io::Write>(writer: &mut W, words: &[u16]) {
     let mut i: usize = 0;
     while i < words.len() {
         let end = run_end(words, i + 1, words[i]);
-        put_run(end - i, words[i]);
+        put_run(writer, end - i, words[i]);
         i = end;
     }
 }
 
 // Writes a name and words as runs. Gives the number of runs.
-pub fn write_runs(name: &[u8], words: &[u16]) -> usize
+pub fn write_runs<W: io::Write>(writer: &mut W, name: &[u8], words: &[u16]) -> usize
     ensures { result ≤ length words.now }
 {
     let n = count_runs(words);
-    put_name(name);
-    put_number(words.len() as u64);
-    put_number(n as u64);
-    put_each(words);
+    put_name(writer, name);
+    put_number(writer, words.len() as u64);
+    put_number(writer, n as u64);
+    put_each(writer, words);
     n
 }
 

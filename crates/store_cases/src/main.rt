@@ -5,9 +5,9 @@ ghost use Rattle.std.specs.Prelude.{◌≡◌, ◌≤◌, length};
 ghost use Rattle.state_lines.specs.Sizes.{Fits};
 
 use calls::RowReply;
-use libc::STDIN_FILENO;
 use machine::{LengthAnswer, Queue, Refusal};
 use state_lines::{Call, Reply, SCRATCH, Store, TABLE};
+use std::io;
 
 #[derive(Drop)]
 struct Made {
@@ -124,7 +124,13 @@ fn make_call(
 }
 
 // Makes a call on the words that are the table, and writes what came of it.
-fn answer(table: &mut [u16], scratch: &mut [u16], store: Store, call: Call) -> Store
+fn answer<W: io::Write>(
+    writer: &mut W,
+    table: &mut [u16],
+    scratch: &mut [u16],
+    store: Store,
+    call: Call,
+) -> Store
     requires { (store.table ≤ length table.old) × (store.scratch ≤ length scratch.old) }
     ensures { (result.table ≡ store.table) × (result.scratch ≡ store.scratch) }
 {
@@ -140,7 +146,7 @@ fn answer(table: &mut [u16], scratch: &mut [u16], store: Store, call: Call) -> S
     );
     let reply = made.reply;
     let queue = made.queue;
-    state_lines::write_call(call, reply, &table[..n], queue, &scratch[..m]);
+    state_lines::write_call(writer, call, reply, &table[..n], queue, &scratch[..m]);
     Store {
         table: n,
         scratch: m,
@@ -149,7 +155,14 @@ fn answer(table: &mut [u16], scratch: &mut [u16], store: Store, call: Call) -> S
 }
 
 // The same of reading a text.
-fn answer_read(table: &mut [u16], scratch: &[u16], store: Store, call: Call, text: &[u8]) -> Store
+fn answer_read<W: io::Write>(
+    writer: &mut W,
+    table: &mut [u16],
+    scratch: &[u16],
+    store: Store,
+    call: Call,
+    text: &[u8],
+) -> Store
     requires { (store.table ≤ length table.old) × (store.scratch ≤ length scratch.now) }
     ensures { (result.table ≡ store.table) × (result.scratch ≡ store.scratch) }
 {
@@ -158,7 +171,7 @@ fn answer_read(table: &mut [u16], scratch: &[u16], store: Store, call: Call, tex
     let made = read(&mut table[..n], store.queue, text);
     let reply = made.reply;
     let queue = made.queue;
-    state_lines::write_call(call, reply, &table[..n], queue, &scratch[..m]);
+    state_lines::write_call(writer, call, reply, &table[..n], queue, &scratch[..m]);
     Store {
         table: n,
         scratch: m,
@@ -177,7 +190,8 @@ fn room_of(asked: u16, most: usize) -> usize
 }
 
 // And of writing one, with the buffer behind it, by way of lent words.
-fn answer_write(
+fn answer_write<W: io::Write>(
+    writer: &mut W,
     table: &[u16],
     scratch: &[u16],
     store: Store,
@@ -200,8 +214,8 @@ fn answer_write(
     );
     let reply = made.reply;
     let queue = made.queue;
-    state_lines::write_call(call, reply, &table[..n], queue, &scratch[..m]);
-    state_lines::write_buffer(call, &text[..room], words);
+    state_lines::write_call(writer, call, reply, &table[..n], queue, &scratch[..m]);
+    state_lines::write_buffer(writer, call, &text[..room], words);
     Store {
         table: n,
         scratch: m,
@@ -210,7 +224,8 @@ fn answer_write(
 }
 
 // A line of n numbers that is a call.
-fn take_call(
+fn take_call<W: io::Write>(
+    writer: &mut W,
     call: Call,
     line: &mut [u16],
     n: usize,
@@ -226,14 +241,15 @@ fn take_call(
     match code {
         10 => {
             let size = state_lines::text_of(&line[..n], text);
-            answer_read(table, scratch, store, call, &text[..size])
+            answer_read(writer, table, scratch, store, call, &text[..size])
         }
-        11 => answer_write(table, scratch, store, call, text, line),
-        _ => answer(table, scratch, store, call),
+        11 => answer_write(writer, table, scratch, store, call, text, line),
+        _ => answer(writer, table, scratch, store, call),
     }
 }
 
-fn take_line(
+fn take_line<W: io::Write>(
+    writer: &mut W,
     letter: u8,
     line: &mut [u16],
     n: usize,
@@ -248,13 +264,13 @@ fn take_line(
     match letter {
         b'C' | b'B' | b'U' => {
             let call = state_lines::call_of(letter, &line[..n]);
-            take_call(call, line, n, table, scratch, text, store)
+            take_call(writer, call, line, n, table, scratch, text, store)
         }
         _ => state_lines::changed(letter, &line[..n], table, scratch, store),
     }
 }
 
-fn run(input: &[u8]) {
+fn run<W: io::Write>(writer: &mut W, input: &[u8]) {
     let mut line = state_lines::line_array();
     let mut table = state_lines::table_array();
     let mut scratch = state_lines::scratch_array();
@@ -264,6 +280,7 @@ fn run(input: &[u8]) {
     while at < input.len() {
         let read = state_lines::read_line(input, at, &mut line);
         store = take_line(
+            writer,
             read.letter,
             &mut line,
             read.count,
@@ -276,8 +293,8 @@ fn run(input: &[u8]) {
     }
 }
 
-fn main() {
+fn main(rt: HostRuntime) {
     let mut input = state_lines::input_array();
-    let n = io::read_full(STDIN_FILENO, &mut input);
-    run(&input[..n]);
+    let n = streams::read_full(&mut rt.stdin(), &mut input);
+    run(&mut rt.stdout(), &input[..n]);
 }

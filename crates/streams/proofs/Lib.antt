@@ -1,2 +1,2 @@
-pub mod AnswerLaws
 pub mod ReadingLaws
+mod ByteLaws

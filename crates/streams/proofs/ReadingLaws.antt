@@ -4,7 +4,6 @@ use mathlib.Core.List.{List}
 use Prim.Native.Nat.{ℕ, ◌+◌, ◌^◌, ◌≤◌, ◌<◌}
 use native.Mathlib.Omega.{arith}
 use lib.ListN.{length}
-use Rattle.streams.specs.declared.Outcome
 use Rattle.streams.specs.declared.Outcome.{Outcome}
 use Rattle.streams.specs.Reading.{remaining, Counted}
 

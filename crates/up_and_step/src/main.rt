@@ -7,8 +7,8 @@ ghost use Rattle.std.specs.Prelude.{◌*◌, ◌≤◌};
 use base_ten::Number;
 use base_ten::bytes::find;
 use base_ten::numbers::number;
-use libc::{STDIN_FILENO, STDOUT_FILENO};
 use machine::{Queue, RowAnswer, StepAnswer};
+use std::io;
 
 const CELLS: u16 = 64;
 
@@ -102,9 +102,9 @@ fn asked(input: &[u8]) -> Number {
 }
 
 // The table and the scratch have just the words that a store of so many cells needs.
-fn answer(input: &[u8]) {
+fn answer<W: io::Write>(writer: &mut W, input: &[u8]) {
     let Number::Value(n) = asked(input) else {
-        io::write_all(STDOUT_FILENO, b"BAD\n");
+        let _ = writer.write_all(b"BAD\n");
         return;
     };
     let mut table = [0u16; cells::MOST_WORDS];
@@ -112,12 +112,11 @@ fn answer(input: &[u8]) {
     let words = cells::words_for(CELLS);
     let marks = cells::scratch_for(CELLS);
     let done = run(&mut table[..words], &mut scratch[..marks], n);
-    io::print_decimal(STDOUT_FILENO, done);
-    io::write_all(STDOUT_FILENO, b"\n");
+    let _ = writeln!(writer, "{done}");
 }
 
-fn main() {
+fn main(rt: HostRuntime) {
     let mut input = [0u8; INPUT_BYTES];
-    let n = io::read_full(STDIN_FILENO, &mut input);
-    answer(&input[..n]);
+    let n = streams::read_full(&mut rt.stdin(), &mut input);
+    answer(&mut rt.stdout(), &input[..n]);
 }
