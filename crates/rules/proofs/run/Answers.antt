@@ -5,25 +5,25 @@ use Rattle.rules.proofs.run.Goals as goal
 
 pub loop-reads-init : goal.loop-reads-init
 loop-reads-init g c = (
-      refl,
-      refl,
-      refl,
-      refl,
-      refl,
-      record {
-        start = _;
-        begins = record {
-          handed = c.args.table.now;
-          long = c.requires.0;
-          starts = c.start-present.ensures;
-          lent = c.requires.1;
-          kept = c.requires.2;
-        };
-        taken = [];
-        threads = threads_none _;
-        counted = omega arith;
-      },
-    )
+  refl,
+  refl,
+  refl,
+  refl,
+  refl,
+  record {
+    start = _;
+    begins = record {
+      handed = c.args.table.now;
+      long = c.requires.0;
+      starts = c.start-present.ensures;
+      lent = c.requires.1;
+      kept = c.requires.2;
+    };
+    taken = [];
+    threads = threads_none _;
+    counted = omega arith;
+  },
+)
 
 pub loop-reads-smaller : goal.loop-reads-smaller
 loop-reads-smaller g c = rw c.left-reads.ensures (fewer _ c.read_part-relayed.result.outcome c.loop-reads-test.true)

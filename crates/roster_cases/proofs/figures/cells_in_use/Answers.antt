@@ -18,7 +18,7 @@ loop-i-preserved c =
     let one : Bool → ℕ = λ b. cond b 1 0 in
     let more = total_more c.loop-i.i (λ (j : ℕ). cond (in_use c.args.table.now j) 1 0) in
     elim c.if-in_use.branch [
-      then-in_use w ↦ (omega arith, omega arith, omega (arith, w.n-is, c.loop-i.invariant.2, more, ap one (sym same ∙ w.if-in_use.true)))
+      | then-in_use w ↦ (omega arith, omega arith, omega (arith, w.n-is, c.loop-i.invariant.2, more, ap one (sym same ∙ w.if-in_use.true)))
       | else-in_use w ↦ (omega arith, omega arith, omega (arith, w.n-is, c.loop-i.invariant.2, more, ap one (sym same ∙ w.if-in_use.false)))
     ]
 
