@@ -13,7 +13,7 @@ from dependencies import differences, listed
 ROOT = os.path.dirname(os.path.dirname(os.path.abspath(__file__)))
 HISTORY = "docs/CHANGES.md"
 # Names of the kit: nothing here can say whether they exist.
-KIT = {"io", "libc", "std", "lib"}
+KIT = {"io", "libc", "os", "std", "lib"}
 
 
 def path(*parts):
