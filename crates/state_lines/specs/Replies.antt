@@ -1,5 +1,4 @@
 -- A reply that is written, as the machine's.
-use Rattle.std.specs.Prelude.{ℕ}
 use Rattle.machine.specs.Calls as machine
 use Rattle.machine.specs.Answers.{refusal_number, rule_number}
 use Rattle.state_lines.specs.declared.replies.Reply.{Reply}

@@ -1,13 +1,10 @@
 -- On a sound store the cells that an accepted call's packet names have room in their name counts: they stand at three for each slot at most.
-use mathlib.Core.Path.{◌≡◌, refl, sym, ap, ◌∙◌}
-use mathlib.Core.Bool.{true, false}
+use mathlib.Core.Path.{◌≡◌}
 use mathlib.Core.List.{List, [], ◌∷◌}
 use Prim.Native.Nat.{ℕ, suc, pred, ◌+◌, ◌*◌, ◌≤◌, ◌<◌}
 use native.Mathlib.Omega.{arith}
 use lib.ListN.{length}
 use Rattle.machine.specs.declared.Queue.{Queue}
-use Rattle.machine.specs.Range.{matching}
-use Rattle.machine.specs.Words.{is_cell}
 use Rattle.machine.specs.Table.{name_count, capacity, table_length, word_at}
 use Rattle.machine.specs.Queue.{Arrays, Packet, slots, waiting}
 use Rattle.machine.specs.Packets.{Kind, reads, makes, replaces, raises, lowers, unknown, kind_of, name, plus, names_of, names, name_changes}

@@ -1,7 +1,7 @@
 -- What `reader` proves of reading a text is the promise: on a sound store its conses are the machine's.
 use mathlib.Core.Path.{◌≡◌, refl, sym, ap, ap₂, ◌∙◌}
-use mathlib.Core.Logic.{inl, inr, ⊎_elim}
-use mathlib.Core.Bool.{Bool, true, false, ◌&&◌}
+use mathlib.Core.Logic.{⊎_elim}
+use mathlib.Core.Bool.{Bool, true}
 use mathlib.Core.List.{List, [], ◌∷◌, ◌++◌}
 use Prim.Native.Nat.{ℕ, zero, suc, pred}
 use native.Mathlib.Omega.{arith}
@@ -18,21 +18,20 @@ use Rattle.machine.specs.Queue.{Arrays}
 use Rattle.machine.specs.Packets.{contains}
 use Rattle.machine.specs.Calls.{cons, row, read, value, refused, Store, store, field}
 use Rattle.machine.specs.Step.{Outcome, outcome}
-use Rattle.machine.specs.Texts.{Built, built, built_pair, build_by}
+use Rattle.machine.specs.Texts.{Built, built_pair, build_by}
 use Rattle.machine.specs.Questions.{Question, ask, first_no, early, late, questions, text_pairs, slots_empty, cells_free}
 use Rattle.machine.specs.Audit.{Sound}
 use Rattle.machine.specs.Facts.{Linked}
-use Rattle.machine.specs.Machine.{refused_or, accepted_row, consed, text_read, accepted, answered, machine}
+use Rattle.machine.specs.Machine.{refused_or, accepted_row, consed, text_read, accepted, machine}
 use Rattle.machine.specs.Answers.{row_reply}
-use Rattle.machine.specs.Promise.{Decided, Untouched, numbers, Promise}
+use Rattle.machine.specs.Promise.{Untouched, numbers, Promise}
 use Rattle.machine.proofs.Words.{index_cell}
-use Rattle.machine.proofs.Questions.{first_no_append, first_no_none, first_no_number, first_no_zero, early_numbered}
+use Rattle.machine.proofs.Questions.{first_no_append, first_no_none, first_no_number, early_numbered}
 use Rattle.machine.proofs.Kept.{untouched_trans, unmoved, built_keeps, untouched_built, machine_accepted, machine_refused}
 use Rattle.soundness.specs.Whole.{Whole}
 use Rattle.soundness.proofs.Facts.{sound_facts}
 use Rattle.soundness.proofs.FreeCells.{chain_length}
 use Rattle.soundness.proofs.CallSound.{built_whole}
-use Rattle.calls.specs.Tests.{code_questions}
 use Rattle.calls.specs.Called.{code_accepted, outcome_of}
 use Rattle.calls.proofs.RowLaws.{fitted_accepted}
 use Rattle.reader.specs.Builds.{code_cons}

@@ -1,5 +1,5 @@
 -- What `writer` proves of writing a text is the promise: it gives the machine's reply on every store.
-use mathlib.Core.Path.{◌≡◌, refl, sym}
+use mathlib.Core.Path.{refl, sym}
 use mathlib.Core.List.{List, []}
 use Prim.Native.Nat.{ℕ}
 use lib.ListN.{length}

@@ -1,5 +1,4 @@
 use mathlib.Core.Path.{sym}
-use borrow.Author.Rules.{rules}
 use Rattle.c_store.proofs.ToldLaws.{saved_told}
 use Rattle.c_store.proofs.row_audit.Goals as goal
 

@@ -1,4 +1,3 @@
-use borrow.Author.Rules.{rules}
 use Rattle.c_store.proofs.ToldLaws.{saved_told}
 use Rattle.c_store.proofs.row_step.Goals as goal
 

@@ -1,4 +1,3 @@
-use borrow.Author.Rules.{rules}
 use Rattle.c_store.proofs.ToldLaws.{text_told}
 use Rattle.c_store.proofs.row_write_text.Goals as goal
 

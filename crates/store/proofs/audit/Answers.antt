@@ -1,4 +1,3 @@
-use borrow.Author.Rules.{rules}
 use Rattle.machine.specs.Calls.{audit}
 use Rattle.store.proofs.RowPromise.{machine_promise}
 use Rattle.store.proofs.audit.Goals as goal

@@ -1,4 +1,3 @@
-use borrow.Author.Rules.{rules}
 use Rattle.store.proofs.RowPromise.{fresh_promise}
 use Rattle.store.proofs.fresh.Goals as goal
 

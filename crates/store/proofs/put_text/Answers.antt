@@ -1,4 +1,3 @@
-use borrow.Author.Rules.{rules}
 use Rattle.store.proofs.TextPromise.{put_promise}
 use Rattle.store.proofs.put_text.Goals as goal
 

@@ -1,4 +1,3 @@
-use borrow.Author.Rules.{rules}
 use Rattle.store.proofs.StepPromise.{step_promise}
 use Rattle.store.proofs.step.Goals as goal
 

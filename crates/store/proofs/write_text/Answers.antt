@@ -1,4 +1,3 @@
-use borrow.Author.Rules.{rules}
 use Rattle.store.proofs.TextPromise.{hand_promise}
 use Rattle.store.proofs.write_text.Goals as goal
 
