@@ -8,13 +8,11 @@ use lib.ListN.{length, take, replicate, length-append}
 use lib.Seq.{length-take-le}
 use borrow.Author.Tests.{leb-true, le-leb}
 use Rattle.line_text.specs.Kept.{kept_bytes, Keeps}
-use Rattle.streams.specs.declared.Outcome
 use Rattle.streams.specs.declared.Outcome.{Outcome}
 use Rattle.streams.specs.declared.Read as declared
 use Rattle.streams.specs.Reading.{Within, remaining, Counted}
 use Rattle.streams.proofs.ReadingLaws.{going}
 use Rattle.serving.proofs.ChainLaws.{linked_both, last_both, joined_both}
-use Rattle.traffic.specs.declared.Workload
 use Rattle.traffic.specs.declared.Workload.{Workload}
 use Rattle.traffic.specs.Workload.{workload_of}
 use Rattle.load_lines.specs.declared.Load.{Load}
@@ -22,7 +20,7 @@ use Rattle.load_lines.specs.Progress.{started, is_more, both_room, Writes}
 use Rattle.load_lines.specs.Whole.{Kept, kept_input, Read, KeptPart, Reads, last_kept, part, inputs, State, Part, WrotePart, Wrote, last_state, left, nothing, begin}
 use Rattle.load_lines.specs.Whole as whole-specs
 use Rattle.load_lines.proofs.Theorem.{whole}
-use Rattle.load.specs.Threading.{kept, state, Follows, ReadsPart, Gathers, ReadsAll, Over, Sends, Concludes, Listed, Ends, Runs}
+use Rattle.load.specs.Threading.{state, Follows, ReadsPart, Gathers, ReadsAll, Sends, Concludes, Listed, Ends, Runs}
 
 -- one call of `keep` more
 module _ {k k' k'' : Kept} (bytes : List ℕ) (g : Gathers k k') (keeps : Keeps k'.line k'.held bytes k''.line k''.held) where

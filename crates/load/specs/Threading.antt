@@ -1,8 +1,7 @@
 -- What the load program hands on: the calls of `keep` and of `next` make the lists that the theorem on whole loads wants (load_lines/specs/Whole). That a
 -- part is what was read, and that the output is written, is not stated: std's contracts say nothing of the bytes of the system's streams.
-use Rattle.std.specs.Prelude.{◌≡◌, false, List, ℕ, ◌+◌, ◌^◌, ◌≤◌, ◌<◌, length, take, replicate}
+use Rattle.std.specs.Prelude.{◌≡◌, false, List, ℕ, ◌+◌, ◌^◌, ◌≤◌, length, take, replicate}
 use Rattle.line_text.specs.Kept.{kept_bytes, Keeps}
-use Rattle.streams.specs.declared.Outcome
 use Rattle.streams.specs.declared.Outcome.{Outcome}
 use Rattle.streams.specs.declared.Read as declared
 use Rattle.streams.specs.Reading.{Within, Counted}

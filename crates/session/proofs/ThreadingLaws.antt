@@ -1,8 +1,8 @@
 -- Lists of parts one after the other, and what the session program's steps hand on.
 use mathlib.Core.Path.{◌≡◌, refl, sym, ap, ◌∙◌}
 use mathlib.Core.Logic.{◌⊎◌, inl, inr}
-use mathlib.Core.List.{List, [], ◌∷◌, ◌++◌, append_assoc}
-use Prim.Native.Nat.{ℕ, ◌+◌, ◌-◌, ◌^◌, ◌≤◌, ◌<◌}
+use mathlib.Core.List.{List, [], ◌∷◌, ◌++◌}
+use Prim.Native.Nat.{ℕ, ◌+◌, ◌-◌, ◌≤◌, ◌<◌}
 use native.Mathlib.Omega.{arith}
 use lib.ListN.{length, take, drop, length-append}
 use lib.Seq.{take-add, length-take-le}
@@ -10,14 +10,12 @@ use Rattle.base_ten.proofs.WordLaws.{append_none}
 use Rattle.base_ten.proofs.KeepLaws.{last_part, last_part_length}
 use Rattle.session_lines.specs.declared.Session.{Session}
 use Rattle.session_lines.specs.Progress.{Feeds, Finishes}
-use Rattle.session_lines.specs.Whole.{State, Part, left, FedPart, Fed, last_state, taken, inputs, begin}
+use Rattle.session_lines.specs.Whole.{State, left, FedPart, last_state, taken, begin}
 use Rattle.serving.proofs.ChainLaws.{linked_both, last_both, joined_both}
 use Rattle.session_lines.proofs.Theorem.{whole}
-use Rattle.streams.specs.declared.Read
 use Rattle.streams.specs.declared.Read.{Read}
 use Rattle.streams.specs.Reading.{Within, remaining, Counted}
 use Rattle.streams.proofs.ReadingLaws.{end_not_more, failed_not_more, going}
-use Rattle.streams.specs.declared.Outcome
 use Rattle.streams.specs.declared.Outcome.{Outcome}
 use Rattle.session.specs.Threading.{state, Threads, Taken, Follows, Reads, Concludes, Runs}
 

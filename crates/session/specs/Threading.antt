@@ -1,13 +1,11 @@
 -- What the session program hands on: the calls of `feed` make a list of parts as the theorem on whole sessions wants it (session_lines/specs/Whole).
 -- That a part's input is what was read, and that its output is written, is not stated: std's contracts say nothing of the bytes of the system's streams.
-use Rattle.std.specs.Prelude.{◌≡◌, List, ◌++◌, ℕ, ◌+◌, ◌-◌, ◌^◌, ◌≤◌, ◌<◌, length, take}
+use Rattle.std.specs.Prelude.{◌≡◌, List, ◌++◌, ℕ, ◌+◌, ◌^◌, ◌≤◌, ◌<◌, length, take}
 use Rattle.session_lines.specs.declared.Session.{Session}
 use Rattle.session_lines.specs.Listing.{listing}
 use Rattle.session_lines.specs.Progress.{Finishes}
 use Rattle.session_lines.specs.Whole.{State, Part, Fed, last_state, inputs, outputs, begin}
-use Rattle.streams.specs.declared.Outcome
 use Rattle.streams.specs.declared.Outcome.{Outcome}
-use Rattle.streams.specs.declared.Read
 use Rattle.streams.specs.declared.Read.{Read}
 use Rattle.streams.specs.Reading.{Within}
 
