@@ -12,11 +12,9 @@ use Rattle.rule_lines.specs.Progress.{State, Feeds, Finishes}
 use Rattle.rule_lines.specs.Whole.{Begins, left, FedPart, last_state, taken}
 use Rattle.serving.proofs.ChainLaws.{linked_both, last_both, joined_both}
 use Rattle.rule_lines.proofs.Theorem.{whole}
-use Rattle.streams.specs.declared.Read
 use Rattle.streams.specs.declared.Read.{Read}
 use Rattle.streams.specs.Reading.{Within, remaining, Counted}
 use Rattle.streams.proofs.ReadingLaws.{end_not_more, failed_not_more, going}
-use Rattle.streams.specs.declared.Outcome
 use Rattle.streams.specs.declared.Outcome.{Outcome}
 use Rattle.rules.specs.Threading.{Threads, Taken, Follows, Reads, Concludes, Runs}
 

@@ -4,9 +4,7 @@ use Rattle.std.specs.Prelude.{◌≡◌, List, ◌++◌, ℕ, ◌+◌, ◌^◌, 
 use Rattle.rule_lines.specs.Answers.{listing}
 use Rattle.rule_lines.specs.Progress.{State, Finishes}
 use Rattle.rule_lines.specs.Whole.{Begins, Part, Fed, last_state, inputs, outputs}
-use Rattle.streams.specs.declared.Outcome
 use Rattle.streams.specs.declared.Outcome.{Outcome}
-use Rattle.streams.specs.declared.Read
 use Rattle.streams.specs.declared.Read.{Read}
 use Rattle.streams.specs.Reading.{Within}
 

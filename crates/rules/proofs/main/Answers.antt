@@ -1,4 +1,4 @@
-use Rattle.std.proofs.Common.{rules, refl}
+use Rattle.std.proofs.Common.{rules}
 use Rattle.machine.specs.Table.{scratch_words}
 use Rattle.rules.proofs.main.Goals as goal
 

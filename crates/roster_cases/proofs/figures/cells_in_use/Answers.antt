@@ -1,4 +1,4 @@
-use Rattle.std.proofs.Common.{rules, arith, ℕ, Bool, cond, ◌≡◌, sym, ap, ◌∙◌}
+use Rattle.std.proofs.Common.{rules, arith, ℕ, Bool, cond, sym, ap, ◌∙◌}
 use Rattle.machine.specs.Range.{total}
 use Rattle.machine.specs.Table.{in_use}
 use Rattle.roster_cases.specs.Figures.{used_cells}

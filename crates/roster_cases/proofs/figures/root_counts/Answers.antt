@@ -1,4 +1,4 @@
-use Rattle.std.proofs.Common.{rules, arith, ℕ, ◌≡◌, sym, ap, ◌∙◌}
+use Rattle.std.proofs.Common.{rules, arith, ℕ, sym, ap, ◌∙◌}
 use Rattle.machine.specs.Range.{total}
 use Rattle.machine.specs.Table.{root_count, word_at}
 use Rattle.roster_cases.specs.Figures.{root_counts}
