@@ -1,6 +1,6 @@
 #!/usr/bin/env python3
 """Whether the documents are true of the repository, as far as a program can tell. `tests/documents.sh` runs it, once for each test: given the test's name it
-prints what offends, a line each, and nothing where all is well. docs/CHANGES.md is history: only its links are looked at. Standard library only."""
+prints what offends, a line each, and nothing where all is well. docs/CHANGES.md and docs/PORT.md are history: only their links are looked at. Standard library only."""
 import os
 import re
 import subprocess
@@ -11,7 +11,7 @@ from collections import Counter, defaultdict
 from dependencies import differences, listed
 
 ROOT = os.path.dirname(os.path.dirname(os.path.abspath(__file__)))
-HISTORY = "docs/CHANGES.md"
+HISTORY = {"docs/CHANGES.md", "docs/PORT.md"}
 # Names of the kit: nothing here can say whether they exist.
 KIT = {"io", "libc", "os", "std", "lib"}
 
@@ -150,7 +150,7 @@ class Citation:
 
 
 def documents(history=False):
-    return ["README.md", "evidence/README.md"] + [f"docs/{name}" for name in folder("docs") if name.endswith(".md") and (history or f"docs/{name}" != HISTORY)]
+    return ["README.md", "evidence/README.md"] + [f"docs/{name}" for name in folder("docs") if name.endswith(".md") and (history or f"docs/{name}" not in HISTORY)]
 
 
 def prose(document):

@@ -48,7 +48,7 @@ inputs ps = joined taken ps
 abbrev pub outputs : List Part → List ℕ
 outputs ps = joined written ps
 
--- any input, in parts of any size; and a call of `finish` after which there is no more to write FinishesWithRoom.finishes
+-- any input, in parts of any size; and a call of `finish` after which there is no more to write (FinishesWithRoom.finishes)
 abbrev pub Whole : Type 0
 Whole = (s : State) (parts : List Part) (written : ℕ) (buffer : List ℕ) → Begins s → Fed s parts → Finishes (last_state s parts) written buffer
     → outputs parts ++ take written buffer ≡ listing (inputs parts)
