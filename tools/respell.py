@@ -1,5 +1,5 @@
 #!/usr/bin/env python3
-"""Brings the repository's own definitions, fields, constructors and lemmas to snake case, after /opt/rattle/port/port.py.
+"""Brings the repository's own definitions, fields, constructors and lemmas to snake case, after the port.py of the kit.
 
 usage: python3 tools/respell.py [--list]     at the top of the repository, once; --list prints each old name with the new one and changes nothing
 
