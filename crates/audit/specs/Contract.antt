@@ -1,6 +1,6 @@
 -- The audit's contract: for any store, the machine's reply and the machine's store afterwards.
 use Rattle.std.specs.Prelude.{◌≡◌, List, ℕ, drop}
-use Rattle.machine.specs.declared.AuditAnswer.{AuditAnswer}
+use Rattle.machine.specs.Answers.{AuditAnswer}
 use Rattle.machine.specs.declared.Queue.{Queue}
 use Rattle.machine.specs.Answers.{audit_answer_reply}
 use Rattle.machine.specs.Audit.{rules, audit_reply}

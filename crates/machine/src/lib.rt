@@ -170,11 +170,7 @@ impl Refusal {
 }
 
 // What a call's questions say: "yes" to all, or the first "no".
-#[derive(Clone, Copy)]
-pub enum Asked {
-    Yes,
-    No(Refusal),
-}
+pub type Asked = Result<(), Refusal>;
 
 // A row program's call with its operands, as a value.
 #[derive(Clone, Copy)]
@@ -189,24 +185,18 @@ pub enum RowCall {
 }
 
 // A row call's answer: the new cell, the word read, the word detached, else 0; or a refusal.
-#[derive(Clone, Copy)]
-pub enum RowAnswer {
-    Done(u16),
-    Refused(Refusal),
-}
+pub type RowAnswer = Result<u16, Refusal>;
 
-#[derive(Clone, Copy)]
-pub enum FreshAnswer {
-    Done,
-    Refused(Refusal),
-}
+pub type FreshAnswer = Result<(), Refusal>;
 
+// What an accepted step did: nothing, since no packet waits, or it applied a packet of this kind and freed so many cells.
 #[derive(Clone, Copy)]
-pub enum StepAnswer {
+pub enum Step {
     Idle,
     Applied { kind: u16, freed: u16 },
-    Refused(Refusal),
 }
+
+pub type StepAnswer = Result<Step, Refusal>;
 
 // The audit's rules S1 to S5, by what each is about.
 #[derive(Clone, Copy)]
@@ -232,16 +222,14 @@ impl Rule {
     }
 }
 
+// What an accepted audit found.
 #[derive(Clone, Copy)]
-pub enum AuditAnswer {
+pub enum Finding {
     Sound,
     Broken(Rule),
-    Refused(Refusal),
 }
 
+pub type AuditAnswer = Result<Finding, Refusal>;
+
 // How many bytes the text of a word has, where it can be written, or the refusal.
-#[derive(Clone, Copy)]
-pub enum LengthAnswer {
-    Length(usize),
-    Refused(Refusal),
-}
+pub type LengthAnswer = Result<usize, Refusal>;

@@ -1,9 +1,10 @@
+use Rattle.std.specs.Prelude.{Ok}
 use mathlib.Core.Path.{◌≡◌, refl}
 use mathlib.Core.List.{List}
 use Prim.Native.Nat.{ℕ}
 use native.Mathlib.Omega.{arith}
 use Rattle.machine.specs.declared.Queue.{Queue}
-use Rattle.machine.specs.declared.Asked.{Asked}
+use Rattle.machine.specs.Answers.{Asked}
 use Rattle.machine.specs.Answers.{asked_number}
 use Rattle.machine.specs.Queue.{slot, put_slot, taken}
 use Rattle.machine.specs.Calls.{step, store}
@@ -14,7 +15,7 @@ use Rattle.collector.proofs.StepContract.{refuses, idles, applies}
 use Rattle.collector.proofs.step.Goals as goal
 
 -- questions 1 and 2 said yes
-past : (t : List ℕ) (q : Queue) (s : List ℕ) (x : Asked) → asked_number x ≡ first_no (early (store t q s) step) → x ≡ Asked.Yes → Lent t q s
+past : (t : List ℕ) (q : Queue) (s : List ℕ) (x : Asked) → asked_number x ≡ first_no (early (store t q s) step) → x ≡ Ok tt → Lent t q s
 past t q s x e y = asked_lent t q s (says_yes t q s x e y)
 
 pub bounds-rest-j : goal.bounds-rest-j
