@@ -28,7 +28,8 @@ use Rattle.counts.specs.Changes.{named_fitting}
 use Rattle.counts.proofs.Changes.{apply_fits, framed_fitting}
 use Rattle.calls.specs.Packets.{value_by}
 use Rattle.calls.specs.Tests.{code_late, code_late_row, code_questions}
-use Rattle.calls.specs.Called.{EarlyYes, answer_of, fitted_all, code_accepted, NamesFit, outcome_of, RowAsked, Queued, RowCalled}
+use Rattle.std.specs.Result.{result_and}
+use Rattle.calls.specs.Called.{EarlyYes, fitted_all, code_accepted, NamesFit, outcome_of, RowAsked, Queued, RowCalled}
 use Rattle.calls.proofs.EarlyLaws.{early_first, late_first}
 use Rattle.calls.proofs.PacketLaws.{packet_value}
 use Rattle.calls.proofs.CallLaws.{questions_split}
@@ -169,10 +170,10 @@ module _ (t : List ℕ) (q : Queue) (p : Packet) (asked : Asked) (late : asked_n
       late_first (first_no (code_questions t q r)) (first_no (early (store t q []) (row r))) (first_no (code_late t q (packet_of t r))) asked (questions_split t q r y.queues)
       y.early (late ∙ ap (λ (s : Packet). first_no (code_late t q s)) y.packet)
 
-  pub queued_refused : (v : ℕ) (f : Refusal) (a : RowAnswer) (q' : Queue) → asked ≡ Err f → a ≡ answer_of asked v → q' ≡ q → Queued t q p a q'
+  pub queued_refused : (v : ℕ) (f : Refusal) (a : RowAnswer) (q' : Queue) → asked ≡ Err f → a ≡ result_and asked (Ok v) → q' ≡ q → Queued t q p a q'
   queued_refused v f a q' said h k r y = rw (h, said) (asked_refused t q r f q' (asked_no (whole r y) said) k)
 
-  pub queued_done : (v : ℕ) (a : RowAnswer) (q' : Queue) → asked ≡ Ok tt → a ≡ answer_of asked v → v ≡ value_by (kind_of p.kind) p.b p.c
+  pub queued_done : (v : ℕ) (a : RowAnswer) (q' : Queue) → asked ≡ Ok tt → a ≡ result_and asked (Ok v) → v ≡ value_by (kind_of p.kind) p.b p.c
       → q' ≡ appended q p → Queued t q p a q'
   queued_done v a q' said h d c r y =
       rw (h, said) (asked_done t q r v q' y.queues (sym (asked_yes (whole r y) said))

@@ -21,11 +21,6 @@ pub record EarlyYes (t : List ℕ) (q : Queue) (r : RowCall) (p : Packet) : Type
   pub early : first_no (early (store t q []) (row r)) ≡ 0
   pub packet : p ≡ packet_of t r
 
--- the answer of a call whose questions said this, and whose value is v
-abbrev pub answer_of : Asked → ℕ → RowAnswer
-answer_of (Ok tt) v = Ok v
-answer_of (Err f) v = Err f
-
 -- packets queued in their order, their cells named in counters of 16 bits
 abbrev pub fitted_all : List ℕ → List Packet → List ℕ
 fitted_all t [] = t

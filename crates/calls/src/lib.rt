@@ -85,7 +85,7 @@ fn queued(table: &[u16], queue: Queue, packet: Packet) -> RowReply
     let place = next.place;
     let count = next.count;
     let asked = late_asked(table, &next, packet);
-    if asked.is_ok() {
+    if let Ok(()) = asked {
         let j = queue::slot_after(place, count);
         next.kinds[j] = packet.kind;
         next.a[j] = packet.a;
@@ -94,7 +94,7 @@ fn queued(table: &[u16], queue: Queue, packet: Packet) -> RowReply
         next.count = count + 1;
     }
     let value = value_of(packet);
-    let answer = asked.map(|_| value);
+    let answer = asked.and(Ok(value));
     RowReply {
         answer: answer,
         queue: next,
@@ -121,7 +121,7 @@ fn queue_and_write(table: &mut [u16], queue: Queue, call: RowCall, packet: Packe
 {
     let reply = queued(table, queue, packet);
     let answer = reply.answer;
-    if answer.is_ok() {
+    if let Ok(_) = answer {
         write(table, call);
         name_packet(table, packet.kind, packet.a, packet.b, packet.c);
     }

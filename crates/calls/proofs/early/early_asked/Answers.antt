@@ -1,4 +1,4 @@
-use Rattle.machine.specs.Queue.{placed}
+
 use Rattle.calls.proofs.EarlyLaws.{stored_behind}
 use Rattle.calls.proofs.CallLaws.{early_of}
 use Rattle.calls.proofs.early.early_asked.Goals as goal
