@@ -16,13 +16,13 @@ root_count-requires c =
 pub returns-then-is_cell : goal.returns-then-is_cell
 returns-then-is_cell c =
     let i = c.args in
-    let s = (c.waiting_changes-s.ensures.by_index i.queue.c).held in
+    let s = (c.waiting_changes-s.ensures.by_index i.queue.now.c).held in
     let with = c.with.ensures in
-    held_cell i.table.now (waiting i.queue) i.word _ _ _ _ _ (cellular _ _ _ c.capacity_of.ensures c.is_cell.ensures c.if-is_cell.true) c.root_count.ensures s.raised s.lowered
+    held_cell i.table.now (waiting i.queue.now) i.word _ _ _ _ _ (cellular _ _ _ c.capacity_of.ensures c.is_cell.ensures c.if-is_cell.true) c.root_count.ensures s.raised s.lowered
     with.raised with.lowered c.at_least.ensures
 
 pub returns : goal.returns
 returns c =
     let i = c.args in
-    held_other i.table.now (waiting i.queue) i.word
+    held_other i.table.now (waiting i.queue.now) i.word
     (cellular i.table.now _ i.word c.capacity_of.ensures c.is_cell.ensures c.if-is_cell.false)
