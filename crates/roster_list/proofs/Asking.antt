@@ -8,7 +8,8 @@ use Prim.Native.Nat.{ℕ}
 use native.Mathlib.Omega.{arith}
 use Rattle.machine.specs.declared.Queue.{Queue}
 use Rattle.machine.specs.declared.Refusal.{Refusal}
-use Rattle.machine.specs.Answers.{Asked}
+use Rattle.machine.specs.declared.Step.{Step}
+use Rattle.machine.specs.Answers.{Asked, StepAnswer, step_reply}
 use Rattle.machine.specs.Answers.{refusal_number}
 use Rattle.machine.specs.Queue.{empty_queue}
 use Rattle.machine.specs.Calls.{row, step, car, Reply, value, refused, idle, applied, store}
@@ -62,9 +63,8 @@ scratch_yes {t} {s} p none q e =
     let enough : scratch_enough t s ≡ true = ⊎_elim (λ d. d) (λ d. absurd (none 2 (a.3 d))) (tested (scratch_enough t s)) in
     record { number = rw (e, enough) refl; table = a.0; scratch = a.1 }
 
-pub scratch_idle : {t s t₂ : List ℕ} {q₂ : Queue} {s₂ : List ℕ} → Promise (store t empty_queue s) step idle (store t₂ q₂ s₂) → ScratchAsks t s (Ok tt) t₂ s₂
-scratch_idle p = scratch_yes p (λ n e. no_idle (sym e))
-
-pub scratch_applied : {t s : List ℕ} {k m : ℕ} {t₂ : List ℕ} {q₂ : Queue} {s₂ : List ℕ} → Promise (store t empty_queue s) step (applied k m) (store t₂ q₂ s₂)
-    → ScratchAsks t s (Ok tt) t₂ s₂
-scratch_applied p = scratch_yes p (λ n e. let z : ◌≡◌ {A = ℕ} 0 1 = cc in omega arith)
+-- an accepted step says "yes", whatever it did
+pub scratch_done : {t s : List ℕ} {a : StepAnswer} {done : Step} {t₂ : List ℕ} {q₂ : Queue} {s₂ : List ℕ} → a ≡ Ok done
+    → Promise (store t empty_queue s) step (step_reply a) (store t₂ q₂ s₂) → ScratchAsks t s (Ok tt) t₂ s₂
+scratch_done {done = Step.Idle} e p = scratch_yes (rw e at p) (λ n d. no_idle (sym d))
+scratch_done {done = Step.Applied k m} e p = scratch_yes (rw e at p) (λ n d. let z : ◌≡◌ {A = ℕ} 0 1 = cc in omega arith)

@@ -20,7 +20,7 @@ pub fn store_asked(table: &mut [u16], queue: Queue, scratch: &mut [u16]) -> Aske
     ensures { Asks (ask_store (store table.old queue scratch.old)) table.old scratch.old result table.new scratch.new }
 {
     let reply = store::car(table, queue, 0);
-    let answer = reply.answer;
-    answer?;
+    let read = reply.answer;
+    read?;
     scratch_asked(table, scratch)
 }

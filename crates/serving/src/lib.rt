@@ -2,18 +2,26 @@
 #![tactic(auto)]
 
 ghost use Rattle.std.specs.Prelude.{◌≡◌};
-ghost use Rattle.machine.specs.Answers.{row_reply, fresh_reply, step_reply};
+ghost use Rattle.machine.specs.Calls.{refused};
+ghost use Rattle.machine.specs.Answers.{refusal_number, row_reply, fresh_reply, step_reply};
 ghost use Rattle.line_text.specs.Verdicts.{verdict_of};
 
 use line_text::Verdict;
-use machine::{FreshAnswer, RowAnswer, Step, StepAnswer};
+use machine::{FreshAnswer, Refusal, RowAnswer, Step, StepAnswer};
+
+// Of a refused call, whichever.
+fn refused(refusal: Refusal) -> Verdict
+    ensures { result ≡ verdict_of (refused (refusal_number refusal)) }
+{
+    Verdict::No(refusal.number())
+}
 
 pub fn fresh_verdict(answer: FreshAnswer) -> Verdict
     ensures { result ≡ verdict_of (fresh_reply answer) }
 {
     match answer {
         Ok(()) => Verdict::Ok(0),
-        Err(refusal) => Verdict::No(refusal.number()),
+        Err(refusal) => refused(refusal),
     }
 }
 
@@ -22,7 +30,7 @@ pub fn row_verdict(answer: RowAnswer) -> Verdict
 {
     match answer {
         Ok(w) => Verdict::Ok(w),
-        Err(refusal) => Verdict::No(refusal.number()),
+        Err(refusal) => refused(refusal),
     }
 }
 
@@ -32,6 +40,6 @@ pub fn step_verdict(answer: StepAnswer) -> Verdict
     match answer {
         Ok(Step::Idle) => Verdict::Idle,
         Ok(Step::Applied { kind: _, freed }) => Verdict::Ok(freed),
-        Err(refusal) => Verdict::No(refusal.number()),
+        Err(refusal) => refused(refusal),
     }
 }

@@ -1,11 +1,18 @@
 use native.Mathlib.Omega.{arith}
+use borrow.Author.Rules.{rules}
+use mathlib.Core.Path.{◌≡◌}
+use Rattle.std.specs.Prelude.{Err}
 use Rattle.machine.proofs.Questions.{says_yes, says_no, asked_lent}
 use Rattle.scratch_counts.proofs.Counts.{scratch_of}
 use Rattle.audit.proofs.Verdict.{audited_refused, audited_judged}
 use Rattle.audit.proofs.audit_store.Goals as goal
 
 pub returns-in_err-lent : goal.returns-in_err-lent
-returns-in_err-lent c = ?
+returns-in_err-lent c =
+    let i = c.args in
+    let r = c.in_err-lent.field-0.0 in
+    let same : c.from_residual.result ≡ Err r = search rules in
+    rw same (audited_refused i.table.now i.queue i.scratch.now r (says_no i.table.now i.queue i.scratch.now _ r c.lent.ensures c.in_err-lent.was))
 
 pub judge-answer-requires : goal.judge-answer-requires
 judge-answer-requires c =

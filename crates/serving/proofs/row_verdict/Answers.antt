@@ -4,4 +4,4 @@ pub returns-in-Ok : goal.returns-in-Ok
 returns-in-Ok c = rw c.in-Ok.is
 
 pub returns-in-Err : goal.returns-in-Err
-returns-in-Err c = rw (c.in-Err.is, c.number.ensures)
+returns-in-Err c = rw (c.in-Err.is, c.refused.ensures)
