@@ -6,8 +6,9 @@ mod part;
 
 ghost use Rattle.std.specs.Prelude.{◌≡◌, suc, ◌≤◌, length, set};
 ghost use Rattle.machine.specs.Table.{header, right, root_count, cell_count, state, name_count, new_cell, free_cell, capacity, first_free, last_free, table_length, scratch_words, word_at, put_word, put_ends, put_cell, in_use};
+ghost use Rattle.machine.specs.Step.{counter_word};
 
-use machine::{CellCount, NameCount, RootCount};
+use machine::{CellCount, Counter, NameCount, RootCount};
 
 // Words in front of the cells, and words of a cell.
 const HEADER: usize = 3;
@@ -65,6 +66,21 @@ pub fn set_field(table: &mut [u16], index: usize, k: usize, v: u16)
     ensures { table.new ≡ put_word table.old index k v }
 {
     part::set_field(&mut table[HEADER..], index, k, v);
+}
+
+// A counter of a cell, of the sort that K is.
+pub fn count<K: Counter>(table: &[u16], index: usize) -> K
+    requires { table_length (suc index) ≤ length table.now }
+    ensures { K.value result ≡ word_at table.now index (counter_word K.sort) }
+{
+    part::count(&table[HEADER..], index)
+}
+
+pub fn set_count<K: Counter>(table: &mut [u16], index: usize, n: K)
+    requires { table_length (suc index) ≤ length table.old }
+    ensures { table.new ≡ put_word table.old index (counter_word K.sort) (K.value n) }
+{
+    part::set_count(&mut table[HEADER..], index, n);
 }
 
 pub fn root_count(table: &[u16], index: usize) -> RootCount

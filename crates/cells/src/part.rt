@@ -2,10 +2,11 @@
 // their own types.
 ghost use Rattle.std.specs.Prelude.{◌≡◌, suc, ◌*◌, ◌<◌, ◌≤◌, length};
 ghost use Rattle.machine.specs.Table.{stride, right, root_count, cell_count, state, name_count};
+ghost use Rattle.machine.specs.Step.{counter_word};
 ghost use Rattle.cells.specs.Part.{word_in, put_word_in};
 
 use crate::{CELL_COUNT, NAME_COUNT, ROOT_COUNT, STATE, STRIDE};
-use machine::{CellCount, NameCount, RootCount};
+use machine::{CellCount, Counter, NameCount, RootCount};
 
 fn word(cells: &[u16], index: usize, k: usize) -> u16
     requires { (stride * suc index ≤ length cells.now) × (k < stride) }
@@ -34,6 +35,21 @@ pub fn set_field(cells: &mut [u16], index: usize, k: usize, v: u16)
     ensures { cells.new ≡ put_word_in cells.old index k v }
 {
     put_word(cells, index, k, v);
+}
+
+// A counter of a cell.
+pub fn count<K: Counter>(cells: &[u16], index: usize) -> K
+    requires { stride * suc index ≤ length cells.now }
+    ensures { K.value result ≡ word_in cells.now index (counter_word K.sort) }
+{
+    K::of(word(cells, index, K::WORD))
+}
+
+pub fn set_count<K: Counter>(cells: &mut [u16], index: usize, n: K)
+    requires { stride * suc index ≤ length cells.old }
+    ensures { cells.new ≡ put_word_in cells.old index (counter_word K.sort) (K.value n) }
+{
+    put_word(cells, index, K::WORD, n.get());
 }
 
 pub fn root_count(cells: &[u16], index: usize) -> RootCount

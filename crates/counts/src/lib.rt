@@ -9,6 +9,7 @@ ghost use Rattle.machine.specs.Packets.{root, cell, plus, minus, kind_of, change
 ghost use Rattle.counts.specs.Changes.{Moves, apply_fitting};
 
 use questions::is_cell;
+use machine::Counter;
 use queue::Packet;
 
 fn root_up(table: &mut [u16], w: u16, n: u16)

@@ -8,6 +8,7 @@ ghost use Rattle.counts.specs.Changes.{Moves, named_fitting};
 ghost use Rattle.counts.specs.Names.{three_of};
 
 use questions::is_cell;
+use machine::Counter;
 use queue::Packet;
 
 fn name_up(table: &mut [u16], w: u16)

@@ -7,7 +7,7 @@ ghost use Rattle.machine.specs.Queue.{slots, queue_of, slot, waiting};
 ghost use Rattle.machine.specs.Words.{largest_word};
 ghost use Rattle.queue.specs.Sums.{packet_of, AtMost, WithCount, at_least, at_most_ceiling, Bounded, Added, SumsOf};
 
-use machine::{CellCount, Queue, RootCount};
+use machine::{CellCount, Limited, Queue, RootCount};
 
 // What a slot holds.
 #[derive(Clone, Copy)]
