@@ -5,6 +5,8 @@ ghost use Rattle.std.specs.Prelude.{◌≡◌, List, ℕ, suc, ◌+◌, ◌%◌,
 ghost use Rattle.machine.specs.Range.{matching};
 ghost use Rattle.machine.specs.Queue.{slots, queue_of, slot, waiting};
 ghost use Rattle.machine.specs.Words.{largest_word};
+ghost use Rattle.machine.specs.Packets.{kind_of};
+ghost use Rattle.queue.specs.Kinds.{known_as, kind_number};
 ghost use Rattle.queue.specs.Sums.{packet_of, AtMost, WithCount, at_least, at_most_ceiling, Bounded, Added, SumsOf};
 
 use machine::{CellCount, Limited, Queue, RootCount};
@@ -19,6 +21,40 @@ pub struct Packet {
 }
 
 // The kinds, by the call that queues a packet.
+#[derive(Clone, Copy, PartialEq, Eq)]
+pub enum Kind {
+    Read = 1,
+    Cons = 2,
+    ReplaceLeft = 3,
+    Up = 4,
+    Down = 5,
+    ReplaceRight = 6,
+}
+
+impl Kind {
+    // A damaged slot's word may be no kind's number.
+    #[tactic(auto, unfolding(machine::specs::Packets::kind_of))]
+    pub fn of(number: u16) -> Option<Kind>
+        ensures { known_as result ≡ kind_of number }
+    {
+        match number {
+            1 => Some(Kind::Read),
+            2 => Some(Kind::Cons),
+            3 => Some(Kind::ReplaceLeft),
+            4 => Some(Kind::Up),
+            5 => Some(Kind::Down),
+            6 => Some(Kind::ReplaceRight),
+            _ => None,
+        }
+    }
+
+    pub fn number(self) -> u16
+        ensures { result ≡ kind_number self }
+    {
+        self as u16
+    }
+}
+
 impl Packet {
     pub const READ: u16 = 1;
 
@@ -31,6 +67,12 @@ impl Packet {
     pub const DOWN: u16 = 5;
 
     pub const REPLACE_RIGHT: u16 = 6;
+
+    pub fn known_kind(self) -> Option<Kind>
+        ensures { known_as result ≡ kind_of self.kind }
+    {
+        Kind::of(self.kind)
+    }
 }
 
 // The slot that lies i places after the first.
