@@ -5,7 +5,7 @@ ghost use Rattle.machine.specs.Facts.{TableShape};
 ghost use Rattle.queue.specs.Sums.{Bounded};
 ghost use Rattle.calls.specs.Tally.{TallyOf};
 
-use queue::{HeldSums, PointerSums, Sums};
+use queue::{CounterSums, Sums};
 
 // One pass over the waiting slots where the word is a cell. No question says "no" of any other word: it counts as held twice, with no pointers.
 pub fn tally_of<'q>(
@@ -21,22 +21,15 @@ pub fn tally_of<'q>(
     ensures { ((c : List ℕ) → TallyOf table.now
         (waiting (queue_of kinds.now a.now b.now c place count)) w result) × Bounded (suc slots) result }
 {
-    if questions::is_cell(cells::capacity_of(table), w) {
-        let index = (w as usize) - 1;
-        let s = queue::waiting_changes(kinds, a, b, place, count, w);
+    let Some(index) = counts::cell_index(table, w) else {
         return Sums {
-            held: s.held.with(cells::root_count(table, index)),
-            pointers: s.pointers.with(cells::cell_count(table, index)),
+            held: CounterSums::new(2, 0),
+            pointers: CounterSums::new(0, 0),
         };
-    }
+    };
+    let s = queue::waiting_changes(kinds, a, b, place, count, w);
     Sums {
-        held: HeldSums {
-            raised: 2,
-            lowered: 0,
-        },
-        pointers: PointerSums {
-            raised: 0,
-            lowered: 0,
-        },
+        held: s.held.with(cells::count(table, index)),
+        pointers: s.pointers.with(cells::count(table, index)),
     }
 }
