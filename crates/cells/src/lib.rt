@@ -22,17 +22,18 @@ pub const MOST_WORDS: usize = HEADER + STRIDE * (machine::MOST_CELLS as usize);
 pub fn words_for(c: u16) -> usize
     ensures { result ≡ table_length c }
 {
-    HEADER + STRIDE * (c as usize)
+    HEADER + STRIDE * usize::from(c)
 }
 
 // The words of scratch that a step or an audit of a table of the most cells needs.
 pub const MOST_SCRATCH: usize = machine::MOST_CELLS as usize;
 
 // How many words of scratch a table of c cells needs.
+#[tactic(auto, unfolding(machine::specs::Table::scratch_words))]
 pub fn scratch_for(c: u16) -> usize
     ensures { result ≡ scratch_words c }
 {
-    c as usize
+    usize::from(c)
 }
 
 // The words of a cell.
@@ -40,13 +41,7 @@ pub const LEFT: usize = 0;
 
 pub const RIGHT: usize = 1;
 
-const ROOT_COUNT: usize = 2;
-
-const CELL_COUNT: usize = 3;
-
 const STATE: usize = 4;
-
-const NAME_COUNT: usize = 5;
 
 // States: a free cell's, and a new cell's.
 const FREE: u16 = 0;
@@ -87,28 +82,28 @@ pub fn root_count(table: &[u16], index: usize) -> RootCount
     requires { table_length (suc index) ≤ length table.now }
     ensures { result.0 ≡ word_at table.now index root_count }
 {
-    part::root_count(&table[HEADER..], index)
+    count(table, index)
 }
 
 pub fn set_root_count(table: &mut [u16], index: usize, n: RootCount)
     requires { table_length (suc index) ≤ length table.old }
     ensures { table.new ≡ put_word table.old index root_count n.0 }
 {
-    part::set_root_count(&mut table[HEADER..], index, n);
+    set_count(table, index, n);
 }
 
 pub fn cell_count(table: &[u16], index: usize) -> CellCount
     requires { table_length (suc index) ≤ length table.now }
     ensures { result.0 ≡ word_at table.now index cell_count }
 {
-    part::cell_count(&table[HEADER..], index)
+    count(table, index)
 }
 
 pub fn set_cell_count(table: &mut [u16], index: usize, n: CellCount)
     requires { table_length (suc index) ≤ length table.old }
     ensures { table.new ≡ put_word table.old index cell_count n.0 }
 {
-    part::set_cell_count(&mut table[HEADER..], index, n);
+    set_count(table, index, n);
 }
 
 // The state's word itself; `in_use` asks only whether it is above 0.
@@ -130,16 +125,17 @@ pub fn name_count(table: &[u16], index: usize) -> NameCount
     requires { table_length (suc index) ≤ length table.now }
     ensures { result.0 ≡ word_at table.now index name_count }
 {
-    part::name_count(&table[HEADER..], index)
+    count(table, index)
 }
 
 pub fn set_name_count(table: &mut [u16], index: usize, n: NameCount)
     requires { table_length (suc index) ≤ length table.old }
     ensures { table.new ≡ put_word table.old index name_count n.0 }
 {
-    part::set_name_count(&mut table[HEADER..], index, n);
+    set_count(table, index, n);
 }
 
+#[tactic(auto, unfolding(machine::specs::Table::in_use))]
 pub fn in_use(table: &[u16], index: usize) -> bool
     requires { table_length (suc index) ≤ length table.now }
     ensures { result ≡ in_use table.now index }
@@ -148,32 +144,35 @@ pub fn in_use(table: &[u16], index: usize) -> bool
 }
 
 // A free cell: its left is the next free cell or 0, its other words are 0.
+#[tactic(auto, unfolding(machine::specs::Table::put_cell, machine::specs::Table::put_words))]
 pub fn set_free(table: &mut [u16], index: usize, next: u16)
     requires { table_length (suc index) ≤ length table.old }
     ensures { table.new ≡ put_cell table.old index (free_cell next) }
 {
     set_field(table, index, LEFT, next);
     set_field(table, index, RIGHT, 0);
-    set_root_count(table, index, RootCount(0));
-    set_cell_count(table, index, CellCount(0));
+    set_count(table, index, RootCount(0));
+    set_count(table, index, CellCount(0));
     set_state(table, index, FREE);
-    set_name_count(table, index, NameCount(0));
+    set_count(table, index, NameCount(0));
 }
 
 // A new cell: both operands, root count 1, cell count 0; no packet names it yet.
+#[tactic(auto, unfolding(machine::specs::Table::put_cell, machine::specs::Table::put_words))]
 pub fn set_new(table: &mut [u16], index: usize, x: u16, y: u16)
     requires { table_length (suc index) ≤ length table.old }
     ensures { table.new ≡ put_cell table.old index (new_cell x y) }
 {
     set_field(table, index, LEFT, x);
     set_field(table, index, RIGHT, y);
-    set_root_count(table, index, RootCount(1));
-    set_cell_count(table, index, CellCount(0));
+    set_count(table, index, RootCount(1));
+    set_count(table, index, CellCount(0));
     set_state(table, index, USED);
-    set_name_count(table, index, NameCount(0));
+    set_count(table, index, NameCount(0));
 }
 
 // The header: C, the first free cell, the last free cell.
+#[tactic(auto, unfolding(machine::specs::Table::capacity))]
 pub fn capacity_of(table: &[u16]) -> u16
     requires { header ≤ length table.now }
     ensures { result ≡ capacity table.now }
@@ -181,6 +180,7 @@ pub fn capacity_of(table: &[u16]) -> u16
     table[0]
 }
 
+#[tactic(auto, unfolding(machine::specs::Table::first_free))]
 pub fn first_free(table: &[u16]) -> u16
     requires { header ≤ length table.now }
     ensures { result ≡ first_free table.now }
@@ -188,6 +188,7 @@ pub fn first_free(table: &[u16]) -> u16
     table[1]
 }
 
+#[tactic(auto, unfolding(machine::specs::Table::last_free))]
 pub fn last_free(table: &[u16]) -> u16
     requires { header ≤ length table.now }
     ensures { result ≡ last_free table.now }
@@ -202,6 +203,7 @@ pub fn set_capacity(table: &mut [u16], c: u16)
     table[0] = c;
 }
 
+#[tactic(auto, unfolding(machine::specs::Table::put_ends))]
 pub fn set_ends(table: &mut [u16], first: u16, last: u16)
     requires { header ≤ length table.old }
     ensures { table.new ≡ put_ends table.old first last }

@@ -19,7 +19,7 @@ pub fn cell_index(table: &[u16], w: u16) -> Option<usize>
     ensures { IndexOf table.now w result }
 {
     if is_cell(cells::capacity_of(table), w) {
-        Some((w - 1) as usize)
+        Some(usize::from(w) - 1)
     } else {
         None
     }

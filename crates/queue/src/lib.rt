@@ -81,7 +81,7 @@ pub fn slot_after(place: u16, i: u16) -> usize
     requires { (place < slots) × (i ≤ slots) }
     ensures { (result ≡ (place + i) % slots) × (result < slots) }
 {
-    ((place + i) % Queue::SLOTS) as usize
+    usize::from((place + i) % Queue::SLOTS)
 }
 
 // By how much a count of the sort K is to be raised and lowered; with the count added, what it counts is the difference.
