@@ -1,10 +1,13 @@
 // The store's declared types, in the forms that document 01 names. What the calls do is the definition in specs/.
 #![tactic(auto)]
 
-ghost use Rattle.std.specs.Prelude.{◌≡◌, ◌-◌};
-ghost use Rattle.machine.specs.Counters.{Raised};
+mod counters;
+
+ghost use Rattle.std.specs.Prelude.{◌≡◌};
 ghost use Rattle.machine.specs.Queue.{empty_queue};
 ghost use Rattle.machine.specs.Answers.{refusal_number, rule_number};
+
+pub use counters::{CellCount, Counter, Limited, NameCount, RootCount};
 
 // The largest C.
 pub const MOST_CELLS: u16 = 4096;
@@ -40,88 +43,6 @@ impl Queue {
             place: 0,
             count: 0,
         }
-    }
-}
-
-// How many pointers to a cell row programs hold.
-#[derive(Clone, Copy)]
-pub struct RootCount(pub u16);
-
-impl RootCount {
-    pub const CEILING: u16 = 4095;
-
-    pub fn raised(self, n: u16) -> RootCount
-        ensures { Raised self.0 n result.0 }
-    {
-        let count = self.0;
-        if n <= 65535 - count {
-            return RootCount(count + n);
-        }
-        RootCount(count)
-    }
-
-    pub fn lowered(self, n: u16) -> RootCount
-        ensures { result.0 ≡ self.0 - n }
-    {
-        let count = self.0;
-        if n <= count {
-            return RootCount(count - n);
-        }
-        RootCount(0)
-    }
-}
-
-// How many pointers to a cell stand in other cells.
-#[derive(Clone, Copy)]
-pub struct CellCount(pub u16);
-
-impl CellCount {
-    pub const CEILING: u16 = 4095;
-
-    pub fn raised(self, n: u16) -> CellCount
-        ensures { Raised self.0 n result.0 }
-    {
-        let count = self.0;
-        if n <= 65535 - count {
-            return CellCount(count + n);
-        }
-        CellCount(count)
-    }
-
-    pub fn lowered(self, n: u16) -> CellCount
-        ensures { result.0 ≡ self.0 - n }
-    {
-        let count = self.0;
-        if n <= count {
-            return CellCount(count - n);
-        }
-        CellCount(0)
-    }
-}
-
-// How many times waiting packets name a cell.
-#[derive(Clone, Copy)]
-pub struct NameCount(pub u16);
-
-impl NameCount {
-    pub fn raised(self, n: u16) -> NameCount
-        ensures { Raised self.0 n result.0 }
-    {
-        let count = self.0;
-        if n <= 65535 - count {
-            return NameCount(count + n);
-        }
-        NameCount(count)
-    }
-
-    pub fn lowered(self, n: u16) -> NameCount
-        ensures { result.0 ≡ self.0 - n }
-    {
-        let count = self.0;
-        if n <= count {
-            return NameCount(count - n);
-        }
-        NameCount(0)
     }
 }
 

@@ -9,7 +9,7 @@ ghost use Rattle.machine.specs.Calls.{step, store, reads_nil};
 ghost use Rattle.machine.specs.Questions.{first_no, early, in_range, long_enough, scratch_enough, cells_in_range, number_in_range, slot_empty};
 ghost use Rattle.machine.specs.Answers.{asked_number, call_of};
 
-use machine::{Asked, CLIP, FIRST_ATOM, MOST_CELLS, Queue, Refusal, RootCount, RowCall};
+use machine::{Asked, CLIP, FIRST_ATOM, Limited, MOST_CELLS, Queue, Refusal, RootCount, RowCall};
 
 // Of c cells.
 pub fn is_cell(c: u16, w: u16) -> bool

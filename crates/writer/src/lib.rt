@@ -17,14 +17,18 @@ fn word_held(table: &[u16], queue: &Queue, word: u16) -> bool
     requires { Shape table.now queue.now }
     ensures { result ≡ word_held table.now (waiting queue.now) word }
 {
-    if questions::is_cell(cells::capacity_of(table), word) {
-        let index = (word as usize) - 1;
-        let place = queue.place;
-        let count = queue.count;
-        let s = queue::waiting_changes(&queue.kinds, &queue.a, &queue.b, place, count, word);
-        return s.held.with(cells::root_count(table, index)).at_least(1);
-    }
-    true
+    let Some(index) = counts::cell_index(table, word) else {
+        return true;
+    };
+    let s = queue::waiting_changes(
+        &queue.kinds,
+        &queue.a,
+        &queue.b,
+        queue.place,
+        queue.count,
+        word,
+    );
+    s.held.with(cells::count(table, index)).at_least(1)
 }
 
 // Questions 1, 4 and 6, which have an exact answer on every store.
