@@ -17,7 +17,6 @@ use machine::{Queue, Step, StepAnswer};
 use marks::roots::{stays_root, watched_of};
 use queue::Packet;
 use suspects::dead_of;
-use walks::MOST;
 
 // A step's answer, and the queue afterwards.
 #[derive(Clone, Copy)]
@@ -44,14 +43,12 @@ fn collect_from(table: &mut [u16], watched: u16, scratch: &mut [u16]) -> u16
     ensures { Collects table.old watched scratch.old table.new scratch.new result }
 {
     let capacity = cells::capacity_of(table);
-    let mut dead = [0u16; MOST];
-    let n = dead_of(table, watched, &mut dead);
-    if MOST < n {
+    let Some(dead) = dead_of(table, watched) else {
         return collect(table, scratch);
-    }
-    freeing::free_all(table, &dead, n);
+    };
+    freeing::free_all(table, dead.as_slice());
     marks::clear(scratch, capacity);
-    n as u16
+    dead.len() as u16
 }
 
 // The oldest packet, which has left the queue, is applied and names its cells no longer: how many cells were freed. Where its watched word is no cell
