@@ -1,8 +1,8 @@
 -- Tests that fail, and a range tested one number at a time.
 use mathlib.Core.Path.{◌≡◌, refl, sym, ap₂, ◌∙◌}
 use mathlib.Core.Bool.{Bool, true, false, not, ◌&&◌}
-use Prim.Native.Nat.{ℕ, zero, suc, ◌+◌, ◌<◌}
-use native.Mathlib.Numerals.{add-one}
+use Prim.Native.Nat.{ℕ, zero, suc, pred, ◌+◌, ◌-◌, ◌<◌}
+use native.Mathlib.Numerals.{add-one, sub-one}
 use native.Mathlib.Omega.{arith}
 use borrow.Author.Tests.{not-true, not-false}
 use Rattle.machine.specs.Range.{every, total}
@@ -58,3 +58,7 @@ total_none f = refl
 pub total_more : (n : ℕ) (f : ℕ → ℕ) → total (n + 1) f ≡ total n f + f n
 unfolding total
 total_more n f = rw add-one
+
+-- a cell's index from its number, as the code and the definitions have it
+pub index_of : (w : ℕ) → w - 1 ≡ pred w
+index_of w = sub-one w
