@@ -15,9 +15,9 @@ use live::all_reached;
 use machine::{Asked, AuditAnswer, Queue, Rule};
 use marks::clear;
 
-fn judge(table: &[u16], queue: Queue, scratch: &mut [u16]) -> AuditAnswer
-    requires { Lent table.now queue scratch.old }
-    ensures { Judged table.now queue scratch.old scratch.new result }
+fn judge(table: &[u16], queue: &Queue, scratch: &mut [u16]) -> AuditAnswer
+    requires { Lent table.now queue.now scratch.old }
+    ensures { Judged table.now queue.now scratch.old scratch.new result }
 {
     if !cells_sound(table) {
         return AuditAnswer::Broken(Rule::Cells);
@@ -44,7 +44,7 @@ pub fn audit_store(table: &[u16], queue: Queue, scratch: &mut [u16]) -> AuditAns
     let asked = questions::lent(table, queue.place, queue.count, scratch);
     match asked {
         Asked::Yes => {
-            let answer = judge(table, queue, scratch);
+            let answer = judge(table, &queue, scratch);
             clear(scratch, cells::capacity_of(table));
             answer
         }

@@ -1,7 +1,7 @@
 -- The numbers below n as the library lists them: what an iterator over a range tests and counts.
-use Rattle.std.proofs.Common.{◌≡◌, refl, Bool, true, false, Option, List, cond, [], ◌∷◌, ◌++◌, ℕ, zero, suc, ◌+◌, zero-add, ap, ◌∙◌, arith}
+use Rattle.std.proofs.Common.{◌≡◌, refl, Bool, true, false, Option, List, cond, [], ◌∷◌, ◌++◌, ℕ, zero, suc, ◌+◌, zero-add, ap, ◌∙◌, arith, add-one, take, get_or, length, ◌≤◌, ◌&&◌}
 use Rattle.std.specs.List.{list_all, count_by, range_with_len}
-use Rattle.std.proofs.lemmas.List.Folds.{list_all-append}
+use Rattle.std.proofs.lemmas.List.Folds.{list_all-append, list_all_more}
 use Rattle.std.proofs.lemmas.List.Sums.{sum_by-append}
 use mathlib.Core.Bool.{and-true}
 use Rattle.std.specs.Fn.{Called}
@@ -37,3 +37,10 @@ pub all_numbers : {F : Type 0} {g : Mut F (ℕ × Unit {0}) Bool} {s : Range ℕ
     × MatchOption o (r ≡ true) (λ x. (r ≡ false) × ((h : F) × Called g j (x, tt) false h)) → s ≡ record { start = 0; end = n }
     → ((x : ℕ) (b : Bool) (q : F) → Called g f (x, tt) b q → (q ≡ f) × (b ≡ p x)) → r ≡ every n p
 all_numbers p n u f r ran e closure = all_from_yields_List p u f r ran (YieldsList-from_range 0 n n e (omega arith)) closure ∙ all_below n p
+
+-- a test of the first n words of a list
+pub front_all : (n : ℕ) (s : List ℕ) (p : ℕ → Bool) → n ≤ length s → list_all p (take n s) ≡ every n (λ i. p (get_or s i 0))
+unfolding every
+front_all zero s p h = refl
+front_all (suc n) s p h =
+    (rw add-one at (list_all_more p s n 0 (omega arith))) ∙ ap (λ b. b && p (get_or s n 0)) (front_all n s p (omega arith))

@@ -23,6 +23,10 @@ use Rattle.scratch_counts.specs.Counts.{CountUp, CountDown, Below}
 pub cell_bounds : (c w : ℕ) {r : Bool} → r ≡ is_cell c w → r ≡ true → (1 ≤ w) × (w ≤ c)
 cell_bounds c w e h = bounds c w (sym e ∙ h)
 
+-- and it has a word in the scratch
+pub cell_place : (c w n : ℕ) {r : Bool} → r ≡ is_cell c w → r ≡ true → scratch_words c ≤ n → w - 1 < n
+cell_place c w n e h m = let b = cell_bounds c w e h in word_within_lem c (w - 1) n (omega arith) m
+
 -- the scratch is enough for the C that the code read
 pub scratch_of : (c n : ℕ) (t : List ℕ) → c ≡ capacity t → scratch_words (capacity t) ≤ n → scratch_words c ≤ n
 scratch_of c n t e h = rw e h
