@@ -78,19 +78,6 @@ module _ (c w v : ℕ) (s : List ℕ) (number : 1 ≤ w) (low : w ≤ c) (enough
     past = past;
   }
 
--- a count that is 0 already
-pub down_zero : (c w : ℕ) (s : List ℕ) → get_or s (w - 1) 0 ≡ 0 → CountDown c w s s
-down_zero c w s e = record {
-  each = λ i l. ⊎_elim
-      (λ b. let d = eqb-true w (suc i) b in omega (arith, matching_few w (suc i), ap (λ (n : ℕ). get_or s n 0) (at i d)))
-      (λ b. omega (arith, matching_other w (suc i) 1 (eqb-false w (suc i) b)))
-      (tested (eqb w (suc i)));
-  past = refl;
-}
-  where
-    at : (i : ℕ) → w ≡ suc i → w - 1 ≡ i
-    at i d = omega arith
-
 -- one more for one word
 pub below_more : (c w n : ℕ) (s s' : List ℕ) → Below c n s → CountUp c w s s' → Below c (n + 1) s'
 below_more c w n s s' h k i l = omega (arith, h i l, k.each i l, matching_few w (suc i))
