@@ -15,26 +15,26 @@ use live::all_reached;
 use machine::{AuditAnswer, Finding, Queue, Rule};
 use marks::clear;
 
-fn judge(table: &[u16], queue: Queue, scratch: &mut [u16]) -> AuditAnswer
-    requires { Lent table.now queue scratch.old }
-    ensures { Judged table.now queue scratch.old scratch.new result }
+fn judge(table: &[u16], queue: &Queue, scratch: &mut [u16]) -> Finding
+    requires { Lent table.now queue.now scratch.old }
+    ensures { Judged table.now queue.now scratch.old scratch.new result }
 {
     if !cells_sound(table) {
-        return Ok(Finding::Broken(Rule::Cells));
+        return Finding::Broken(Rule::Cells);
     }
     if !chain_sound(table) {
-        return Ok(Finding::Broken(Rule::FreeChain));
+        return Finding::Broken(Rule::FreeChain);
     }
     if !packets_sound(table, queue, scratch) {
-        return Ok(Finding::Broken(Rule::Packets));
+        return Finding::Broken(Rule::Packets);
     }
     if !pointers_sound(table, queue, scratch) {
-        return Ok(Finding::Broken(Rule::Pointers));
+        return Finding::Broken(Rule::Pointers);
     }
     if !all_reached(table, scratch) {
-        return Ok(Finding::Broken(Rule::Reached));
+        return Finding::Broken(Rule::Reached);
     }
-    Ok(Finding::Sound)
+    Finding::Sound
 }
 
 // For any table, queue and scratch. The table is only read, and the scratch's front is 0 afterwards, also where a rule is broken.
@@ -42,7 +42,7 @@ pub fn audit_store(table: &[u16], queue: Queue, scratch: &mut [u16]) -> AuditAns
     ensures { Audited table.now queue scratch.old scratch.new result }
 {
     questions::lent(table, &queue, scratch)?;
-    let answer = judge(table, queue, scratch);
+    let finding = judge(table, &queue, scratch);
     clear(scratch, cells::capacity_of(table));
-    answer
+    Ok(finding)
 }

@@ -14,8 +14,8 @@ returns-in_err-lent c =
     let same : c.from_residual.result ≡ Err r = search rules in
     rw same (audited_refused i.table.now i.queue i.scratch.now r (says_no i.table.now i.queue i.scratch.now _ r c.lent.ensures c.in_err-lent.was))
 
-pub judge-answer-requires : goal.judge-answer-requires
-judge-answer-requires c =
+pub judge-finding-requires : goal.judge-finding-requires
+judge-finding-requires c =
     let i = c.args in
     let yes = says_yes i.table.now i.queue i.scratch.now _ c.lent.ensures c.in_ok-lent.was in
     asked_lent i.table.now i.queue i.scratch.now yes
@@ -33,11 +33,11 @@ clear-requires c =
     let yes = says_yes i.table.now i.queue i.scratch.now _ c.lent.ensures c.in_ok-lent.was in
     let lent = asked_lent i.table.now i.queue i.scratch.now yes in
     let enough = scratch_of _ _ i.table.now c.capacity_of.ensures lent.scratch in
-    omega (arith, c.judge-answer.auto.scratch)
+    omega (arith, c.judge-finding.auto.scratch)
 
 pub returns : goal.returns
 returns c =
     let i = c.args in
     let yes = says_yes i.table.now i.queue i.scratch.now _ c.lent.ensures c.in_ok-lent.was in
-    audited_judged i.table.now i.queue i.scratch.now yes _ _ _ _ c.judge-answer.ensures c.capacity_of.ensures
+    audited_judged i.table.now i.queue i.scratch.now yes _ _ _ _ c.judge-finding.ensures c.capacity_of.ensures
     c.clear.ensures
