@@ -71,6 +71,8 @@ pub fn write_text<'b>(table: &[u16], queue: Queue, word: u16, buffer: &'b mut [u
     ensures { Writes table.now queue word (length buffer.old) buffer.entry.ref_ptr result.ref_ptr result.now }
 {
     let answer = put_text(table, queue, word, buffer);
-    let n = answer.unwrap_or(0);
-    &mut buffer[..n]
+    match answer {
+        Ok(n) => &mut buffer[..n],
+        Err(_) => &mut buffer[..0],
+    }
 }
