@@ -1,7 +1,7 @@
 use Rattle.std.proofs.Common.{arith, sym, ◌∙◌}
 use Rattle.machine.specs.Queue.{empty_queue}
 use Rattle.machine.proofs.Questions.{shape_is}
-use Rattle.roster_cases.proofs.asking.store_number.Goals as goal
+use Rattle.roster_cases.proofs.asking.store_asked.Goals as goal
 
 pub scratch_enough-requires : goal.scratch_enough-requires
 scratch_enough-requires c =
