@@ -4,8 +4,7 @@
 
 ghost use Rattle.std.specs.Prelude.{◌*◌, ◌≤◌};
 
-use base_ten::Number;
-use base_ten::bytes::find;
+use base_ten::bytes::split_once;
 use base_ten::numbers::number;
 use machine::{Queue, RowAnswer, Step, StepAnswer};
 use std::io;
@@ -81,17 +80,17 @@ fn run(table: &mut [u16], scratch: &mut [u16], n: u32) -> u64
 }
 
 // The number of rounds, with or without a line feed.
-fn asked(input: &[u8]) -> Number {
-    let end = find(input, b'\n');
-    if 1 < input.len() - end {
-        return Number::Nothing;
+fn asked(input: &[u8]) -> Option<u32> {
+    match split_once(input, b'\n') {
+        None => number(input, u32::MAX),
+        Some((line, rest)) if rest.is_empty() => number(line, u32::MAX),
+        Some(_) => None,
     }
-    number(&input[..end], u32::MAX)
 }
 
 // The table and the scratch have just the words that a store of so many cells needs.
 fn answer<W: io::Write>(writer: &mut W, input: &[u8]) {
-    let Number::Value(n) = asked(input) else {
+    let Some(n) = asked(input) else {
         let _ = writer.write_all(b"BAD\n");
         return;
     };
