@@ -3,7 +3,7 @@ ghost use Rattle.std.specs.Prelude.{◌≡◌, suc, ◌≤◌, length};
 ghost use Rattle.machine.specs.Table.{root_count, table_length, word_at};
 ghost use Rattle.roster_cases.specs.Figures.{cells_of, root_counts, root_count_of, used_cells};
 
-use machine::{AuditAnswer, Finding, Queue};
+use machine::{AuditAnswer, Finding, Queue, RootCount};
 use std::io;
 
 // How many cells a table says that it has; none where it is too short for them.
@@ -24,7 +24,7 @@ fn root_count_at(table: &[u16], index: usize) -> u64
     requires { table_length (suc index) ≤ length table.now }
     ensures { (result ≡ word_at table.now index root_count) × (result ≤ 65535) }
 {
-    let count = cells::root_count(table, index);
+    let count: RootCount = cells::count(table, index);
     count.0 as u64
 }
 
