@@ -25,8 +25,8 @@ fn counts_sound(table: &[u16], index: usize) -> bool
     ensures { result ≡ counts_sound table.now index }
 {
     cells::state_word(table, index) <= cells::USED
-        && cells::root_count(table, index).0 <= RootCount::CEILING
-        && cells::cell_count(table, index).0 <= CellCount::CEILING
+        && cells::count::<RootCount>(table, index).0 <= RootCount::CEILING
+        && cells::count::<CellCount>(table, index).0 <= CellCount::CEILING
 }
 
 #[tactic(auto, unfolding(crate::specs::Cells::field_holds, machine::specs::Table::is_free))]

@@ -12,7 +12,7 @@ ghost use Rattle.audit_packets.specs.Names.{most_names, CountPacket, NamesCount,
 
 use crate::slots::packet_on;
 use counts::names::names_of;
-use machine::Queue;
+use machine::{NameCount, Queue};
 use marks::clear;
 use queue::Packet;
 use scratch_counts::raise;
@@ -45,7 +45,7 @@ fn names_match(table: &[u16], scratch: &[u16]) -> bool
     let c = cells::capacity_of(table) as usize;
     let mut i: usize = 0;
     while i < c {
-        if cells::name_count(table, i).0 != scratch[i] {
+        if cells::count::<NameCount>(table, i).0 != scratch[i] {
             return false;
         }
         i += 1;

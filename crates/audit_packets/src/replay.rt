@@ -56,7 +56,7 @@ fn word_replays(table: &[u16], queue: &Queue, j: u16, x: u16) -> bool
     ensures { result ≡ word_replays table.now queue.now j x }
 {
     !is_cell(cells::capacity_of(table), x)
-        || stage_sound(queue, j, x, cells::root_count(table, (x - 1) as usize))
+        || stage_sound(queue, j, x, cells::count(table, (x - 1) as usize))
 }
 
 #[tactic(auto, unfolding(crate::specs::Packets::packet_replays))]

@@ -54,5 +54,6 @@ pub(crate) fn counts_match(table: &[u16], scratch: &[u16]) -> bool
     requires { TableShape table.now × (scratch_words (capacity table.now) ≤ length scratch.now) }
     ensures { result ≡ every (capacity table.now) (count_matches table.now scratch.now) }
 {
-    (0..cells::capacity_of(table) as usize).all(|i| cells::cell_count(table, i).0 == scratch[i])
+    (0..cells::capacity_of(table) as usize).all(|i| cells::count::<CellCount>(table, i).0
+        == scratch[i])
 }

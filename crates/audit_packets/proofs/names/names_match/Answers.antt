@@ -17,14 +17,14 @@ bounds-scratch-i c =
     let l : c.loop-i.i < capacity c.args.table.now = omega arith in
     omega (arith, word_within_lem (capacity c.args.table.now) c.loop-i.i (length c.args.scratch.now) l c.requires.1)
 
-pub returns-then-name_count-scratch : goal.returns-then-name_count-scratch
+pub returns-then-count-scratch : goal.returns-then-count-scratch
 unfolding name_matches
-returns-then-name_count-scratch c = sym (every_fails _ _ _ (omega arith) (ne_eqb _ _ (λ e. c.if-name_count-scratch.true (c.name_count.ensures ∙ e))))
+returns-then-count-scratch c = sym (every_fails _ _ _ (omega arith) (ne_eqb _ _ (λ e. c.if-count-scratch.true (c.count.ensures ∙ e))))
 
 pub loop-i-preserved : goal.loop-i-preserved
 unfolding name_matches
 loop-i-preserved c =
-    (omega arith, every_more _ _ c.loop-i.invariant.1 (eq-eqb _ _ (sym c.name_count.ensures ∙ c.if-name_count-scratch.false)))
+    (omega arith, every_more _ _ c.loop-i.invariant.1 (eq-eqb _ _ (sym c.count.ensures ∙ c.if-count-scratch.false)))
 
 pub returns : goal.returns
 returns c =
