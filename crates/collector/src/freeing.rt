@@ -6,7 +6,8 @@ ghost use Rattle.machine.specs.Step.{lower_pointers, join, swept};
 ghost use Rattle.machine.specs.Facts.{TableShape};
 ghost use Rattle.collector.specs.FreedCells.{Listed};
 
-use counts::cell_down;
+use counts::down;
+use machine::CellCount;
 
 // A wiped cell joins the free chain at its front.
 fn prepend(table: &mut [u16], index: u16)
@@ -31,8 +32,8 @@ fn lower_pointers(table: &mut [u16], index: u16)
     let place = usize::from(index);
     let left = cells::field(table, place, cells::LEFT);
     let right = cells::field(table, place, cells::RIGHT);
-    cell_down(table, left, 1);
-    cell_down(table, right, 1);
+    down::<CellCount>(table, left, 1);
+    down::<CellCount>(table, right, 1);
 }
 
 // The cell at an index freed.

@@ -13,7 +13,7 @@ ghost use Rattle.queue.specs.Sums.{packet_of};
 ghost use Rattle.collector.specs.Steps.{Frees, Collects, Applies, Steps};
 
 use counts::names::unname_packet;
-use machine::{Asked, Queue, StepAnswer};
+use machine::{Queue, Step, StepAnswer};
 use marks::roots::{stays_root, watched_of};
 use queue::Packet;
 use suspects::dead_of;
@@ -72,12 +72,12 @@ fn apply_oldest(table: &mut [u16], oldest: Packet, scratch: &mut [u16]) -> u16
 pub fn step(table: &mut [u16], queue: Queue, scratch: &mut [u16]) -> Stepped
     ensures { Steps table.old queue scratch.old result table.new scratch.new }
 {
-    let asked = questions::lent(table, queue.place, queue.count, scratch);
+    let asked = questions::lent(table, &queue, scratch);
     let mut rest = queue;
-    let mut answer = StepAnswer::Idle;
+    let mut answer = Ok(Step::Idle);
     match asked {
-        Asked::No(refusal) => answer = StepAnswer::Refused(refusal),
-        Asked::Yes => {
+        Err(refusal) => answer = Err(refusal),
+        Ok(()) => {
             if 0 < rest.count {
                 let j = rest.place as usize;
                 let kind = rest.kinds[j];
@@ -91,7 +91,7 @@ pub fn step(table: &mut [u16], queue: Queue, scratch: &mut [u16]) -> Stepped
                 rest.place = (rest.place + 1) % Queue::SLOTS;
                 rest.count -= 1;
                 let freed = apply_oldest(table, Packet { kind, a, b, c }, scratch);
-                answer = StepAnswer::Applied { kind, freed };
+                answer = Ok(Step::Applied { kind, freed });
             }
         }
     }
