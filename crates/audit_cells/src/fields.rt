@@ -5,7 +5,7 @@ ghost use Rattle.machine.specs.Audit.{field_sound, cells_sound};
 ghost use Rattle.machine.specs.Facts.{TableShape};
 ghost use Rattle.audit_cells.specs.Cells.{counts_sound, field_holds};
 
-use machine::{CellCount, FIRST_ATOM, RootCount};
+use machine::{CellCount, FIRST_ATOM, Limited, RootCount};
 
 // A word is nil, an atom or a cell in use.
 #[tactic(auto, using(crate::proofs::Tests::index_of), unfolding(machine::specs::Audit::field_sound, machine::specs::Words::is_nil, machine::specs::Words::is_atom, machine::specs::Words::is_cell))]

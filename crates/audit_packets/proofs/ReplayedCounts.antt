@@ -20,7 +20,7 @@ use Rattle.machine.proofs.Range.{tested, below_suc, and_both, and_first, and_sec
 use Rattle.machine.proofs.Replay.{replays_uses, replays_bound, replays_rest}
 use Rattle.machine.proofs.Ring.{packets_snoc}
 use Rattle.machine.proofs.Words.{cell_number_lem, cell_index, index_cell}
-use Rattle.queue.specs.declared.HeldSums.{HeldSums}
+use Rattle.queue.specs.Held.{HeldSums}
 use Rattle.queue.specs.Sums.{CounterSums, WithCount, at_least, at_most_ceiling}
 use Rattle.audit_packets.specs.Packets.{packet_on, oldest, cut_to, HeldAfter, stage_sound, word_replays, packet_replays, replays_all}
 use Rattle.audit_cells.proofs.Cells.{cell_counts, counts_facts}

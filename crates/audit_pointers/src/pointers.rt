@@ -6,7 +6,7 @@ ghost use Rattle.machine.specs.Facts.{TableShape};
 ghost use Rattle.scratch_counts.specs.Counts.{Below};
 ghost use Rattle.audit_pointers.specs.PointerCounts.{most_pointers, CountCell, Counted, count_within, word_within, count_matches};
 
-use machine::CellCount;
+use machine::{CellCount, Limited};
 use marks::clear;
 use questions::is_cell;
 use scratch_counts::raise;

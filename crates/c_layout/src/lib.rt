@@ -8,7 +8,9 @@ ghost use Rattle.machine.specs.Calls.{refused};
 ghost use Rattle.machine.specs.Answers.{refusal_number, row_reply, fresh_reply, step_reply, audit_answer_reply};
 ghost use Rattle.c_layout.specs.Replies.{reply, told, LengthTold};
 
-use machine::{AuditAnswer, FreshAnswer, LengthAnswer, Refusal, RowAnswer, StepAnswer};
+use machine::{
+    AuditAnswer, Finding, FreshAnswer, LengthAnswer, Refusal, RowAnswer, Step, StepAnswer,
+};
 
 // In C `struct row_reply`.
 #[repr(C)]
@@ -56,8 +58,8 @@ pub fn row_told(answer: RowAnswer) -> Reply
     ensures { result ≡ told (row_reply answer) }
 {
     match answer {
-        RowAnswer::Done(word) => tagged(Reply::VALUE, word, 0),
-        RowAnswer::Refused(refusal) => refused(refusal),
+        Ok(word) => tagged(Reply::VALUE, word, 0),
+        Err(refusal) => refused(refusal),
     }
 }
 
@@ -65,8 +67,8 @@ pub fn fresh_told(answer: FreshAnswer) -> Reply
     ensures { result ≡ told (fresh_reply answer) }
 {
     match answer {
-        FreshAnswer::Done => tagged(Reply::VALUE, 0, 0),
-        FreshAnswer::Refused(refusal) => refused(refusal),
+        Ok(()) => tagged(Reply::VALUE, 0, 0),
+        Err(refusal) => refused(refusal),
     }
 }
 
@@ -74,9 +76,9 @@ pub fn step_told(answer: StepAnswer) -> Reply
     ensures { result ≡ told (step_reply answer) }
 {
     match answer {
-        StepAnswer::Idle => tagged(Reply::IDLE, 0, 0),
-        StepAnswer::Applied { kind, freed } => tagged(Reply::APPLIED, kind, freed as usize),
-        StepAnswer::Refused(refusal) => refused(refusal),
+        Ok(Step::Idle) => tagged(Reply::IDLE, 0, 0),
+        Ok(Step::Applied { kind, freed }) => tagged(Reply::APPLIED, kind, freed as usize),
+        Err(refusal) => refused(refusal),
     }
 }
 
@@ -84,9 +86,9 @@ pub fn audit_told(answer: AuditAnswer) -> Reply
     ensures { result ≡ told (audit_answer_reply answer) }
 {
     match answer {
-        AuditAnswer::Sound => tagged(Reply::SOUND, 0, 0),
-        AuditAnswer::Broken(rule) => tagged(Reply::BROKEN, rule.number(), 0),
-        AuditAnswer::Refused(refusal) => refused(refusal),
+        Ok(Finding::Sound) => tagged(Reply::SOUND, 0, 0),
+        Ok(Finding::Broken(rule)) => tagged(Reply::BROKEN, rule.number(), 0),
+        Err(refusal) => refused(refusal),
     }
 }
 
@@ -94,7 +96,7 @@ pub fn length_told(answer: LengthAnswer) -> Reply
     ensures { LengthTold answer result }
 {
     match answer {
-        LengthAnswer::Length(bytes) => tagged(Reply::TEXT, 0, bytes),
-        LengthAnswer::Refused(refusal) => refused(refusal),
+        Ok(bytes) => tagged(Reply::TEXT, 0, bytes),
+        Err(refusal) => refused(refusal),
     }
 }

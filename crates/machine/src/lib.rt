@@ -1,10 +1,13 @@
 // The store's declared types, in the forms that document 01 names. What the calls do is the definition in specs/.
 #![tactic(auto)]
 
-ghost use Rattle.std.specs.Prelude.{◌≡◌, ◌-◌};
-ghost use Rattle.machine.specs.Counters.{Raised};
+mod counters;
+
+ghost use Rattle.std.specs.Prelude.{◌≡◌};
 ghost use Rattle.machine.specs.Queue.{empty_queue};
 ghost use Rattle.machine.specs.Answers.{refusal_number, rule_number};
+
+pub use counters::{CellCount, Counter, Limited, NameCount, RootCount};
 
 // The largest C.
 pub const MOST_CELLS: u16 = 4096;
@@ -40,88 +43,6 @@ impl Queue {
             place: 0,
             count: 0,
         }
-    }
-}
-
-// How many pointers to a cell row programs hold.
-#[derive(Clone, Copy)]
-pub struct RootCount(pub u16);
-
-impl RootCount {
-    pub const CEILING: u16 = 4095;
-
-    pub fn raised(self, n: u16) -> RootCount
-        ensures { Raised self.0 n result.0 }
-    {
-        let count = self.0;
-        if n <= 65535 - count {
-            return RootCount(count + n);
-        }
-        RootCount(count)
-    }
-
-    pub fn lowered(self, n: u16) -> RootCount
-        ensures { result.0 ≡ self.0 - n }
-    {
-        let count = self.0;
-        if n <= count {
-            return RootCount(count - n);
-        }
-        RootCount(0)
-    }
-}
-
-// How many pointers to a cell stand in other cells.
-#[derive(Clone, Copy)]
-pub struct CellCount(pub u16);
-
-impl CellCount {
-    pub const CEILING: u16 = 4095;
-
-    pub fn raised(self, n: u16) -> CellCount
-        ensures { Raised self.0 n result.0 }
-    {
-        let count = self.0;
-        if n <= 65535 - count {
-            return CellCount(count + n);
-        }
-        CellCount(count)
-    }
-
-    pub fn lowered(self, n: u16) -> CellCount
-        ensures { result.0 ≡ self.0 - n }
-    {
-        let count = self.0;
-        if n <= count {
-            return CellCount(count - n);
-        }
-        CellCount(0)
-    }
-}
-
-// How many times waiting packets name a cell.
-#[derive(Clone, Copy)]
-pub struct NameCount(pub u16);
-
-impl NameCount {
-    pub fn raised(self, n: u16) -> NameCount
-        ensures { Raised self.0 n result.0 }
-    {
-        let count = self.0;
-        if n <= 65535 - count {
-            return NameCount(count + n);
-        }
-        NameCount(count)
-    }
-
-    pub fn lowered(self, n: u16) -> NameCount
-        ensures { result.0 ≡ self.0 - n }
-    {
-        let count = self.0;
-        if n <= count {
-            return NameCount(count - n);
-        }
-        NameCount(0)
     }
 }
 
@@ -170,11 +91,7 @@ impl Refusal {
 }
 
 // What a call's questions say: "yes" to all, or the first "no".
-#[derive(Clone, Copy)]
-pub enum Asked {
-    Yes,
-    No(Refusal),
-}
+pub type Asked = Result<(), Refusal>;
 
 // A row program's call with its operands, as a value.
 #[derive(Clone, Copy)]
@@ -189,24 +106,18 @@ pub enum RowCall {
 }
 
 // A row call's answer: the new cell, the word read, the word detached, else 0; or a refusal.
-#[derive(Clone, Copy)]
-pub enum RowAnswer {
-    Done(u16),
-    Refused(Refusal),
-}
+pub type RowAnswer = Result<u16, Refusal>;
 
-#[derive(Clone, Copy)]
-pub enum FreshAnswer {
-    Done,
-    Refused(Refusal),
-}
+pub type FreshAnswer = Result<(), Refusal>;
 
+// What an accepted step did: nothing, since no packet waits, or it applied a packet of this kind and freed so many cells.
 #[derive(Clone, Copy)]
-pub enum StepAnswer {
+pub enum Step {
     Idle,
     Applied { kind: u16, freed: u16 },
-    Refused(Refusal),
 }
+
+pub type StepAnswer = Result<Step, Refusal>;
 
 // The audit's rules S1 to S5, by what each is about.
 #[derive(Clone, Copy)]
@@ -232,16 +143,14 @@ impl Rule {
     }
 }
 
+// What an accepted audit found.
 #[derive(Clone, Copy)]
-pub enum AuditAnswer {
+pub enum Finding {
     Sound,
     Broken(Rule),
-    Refused(Refusal),
 }
 
+pub type AuditAnswer = Result<Finding, Refusal>;
+
 // How many bytes the text of a word has, where it can be written, or the refusal.
-#[derive(Clone, Copy)]
-pub enum LengthAnswer {
-    Length(usize),
-    Refused(Refusal),
-}
+pub type LengthAnswer = Result<usize, Refusal>;

@@ -30,7 +30,7 @@ fn seat_number(code: u16, seat: u16) -> u16
 fn store_number(table: &[u16], queue: Queue, scratch: &[u16]) -> u16
     ensures { result ≤ 2 }
 {
-    if !questions::in_range(table, queue.place, queue.count) {
+    if !questions::in_range(table, &queue) {
         return 1;
     }
     if !questions::scratch_enough(table, scratch) {

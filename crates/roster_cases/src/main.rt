@@ -9,7 +9,7 @@ ghost use Rattle.state_lines.specs.Sizes.{Fits};
 
 use asking::{SET, early_number};
 use figures::write_figures;
-use machine::{FreshAnswer, Queue, Refusal};
+use machine::{Queue, Refusal};
 use readings::{Replied, RosterAnswer};
 use state_lines::{Call, SCRATCH, Store, TABLE};
 use std::io;
@@ -32,13 +32,13 @@ fn fresh(table: &mut [u16], queue: Queue, word: u16, c: u16) -> Replied {
     let answer = reply.answer;
     let next = reply.queue;
     match answer {
-        FreshAnswer::Done => Replied {
-            answer: RosterAnswer::Done(0),
+        Ok(()) => Replied {
+            answer: Ok(Some(0)),
             queue: next,
             word: 0,
         },
-        FreshAnswer::Refused(refusal) => Replied {
-            answer: RosterAnswer::Refused(refusal),
+        Err(refusal) => Replied {
+            answer: Err(refusal),
             queue: next,
             word,
         },
@@ -60,7 +60,7 @@ fn make_call(
         3 => roster::remove(table, queue, word, scratch, call.p),
         4 => roster::count(table, queue, word, scratch, call.p),
         _ => Replied {
-            answer: RosterAnswer::Refused(Refusal::NumberOutOfRange),
+            answer: Err(Refusal::NumberOutOfRange),
             queue,
             word,
         },
@@ -69,13 +69,13 @@ fn make_call(
 
 fn write_answer<W: io::Write>(writer: &mut W, answer: RosterAnswer) {
     match answer {
-        RosterAnswer::Done(value) => {
+        Ok(Some(value)) => {
             state_lines::write_numbers(writer, b" OK", &[value as u64]);
         }
-        RosterAnswer::Absent => {
+        Ok(None) => {
             state_lines::write_name(writer, b" ABSENT");
         }
-        RosterAnswer::Refused(refusal) => {
+        Err(refusal) => {
             state_lines::write_numbers(writer, b" NO", &[refusal.number() as u64]);
         }
     }
@@ -85,9 +85,9 @@ fn write_answer<W: io::Write>(writer: &mut W, answer: RosterAnswer) {
 // Every refusal but 8 changes nothing.
 fn changes_nothing(answer: RosterAnswer) -> bool {
     match answer {
-        RosterAnswer::Done(_) => false,
-        RosterAnswer::Absent => false,
-        RosterAnswer::Refused(refusal) => refusal.number() != NO_FREE_CELL,
+        Ok(Some(_)) => false,
+        Ok(None) => false,
+        Err(refusal) => refusal.number() != NO_FREE_CELL,
     }
 }
 
@@ -136,9 +136,9 @@ fn is_allowed(code: u16, early: u16, answer: RosterAnswer) -> bool {
         return true;
     }
     match answer {
-        RosterAnswer::Done(_) => early == 0,
-        RosterAnswer::Absent => early == 0,
-        RosterAnswer::Refused(refusal) => {
+        Ok(Some(_)) => early == 0,
+        Ok(None) => early == 0,
+        Err(refusal) => {
             if early != 0 {
                 return refusal.number() == early;
             }

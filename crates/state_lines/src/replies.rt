@@ -9,7 +9,8 @@ use crate::output::{put_name, put_number, put_word};
 use crate::queue::put_queue;
 use crate::runs::{widen, write_runs};
 use machine::{
-    AuditAnswer, FreshAnswer, LengthAnswer, Queue, Refusal, RowAnswer, Rule, StepAnswer,
+    AuditAnswer, Finding, FreshAnswer, LengthAnswer, Queue, Refusal, RowAnswer, Rule, Step,
+    StepAnswer,
 };
 use std::io;
 
@@ -27,8 +28,8 @@ pub fn row_reply(answer: RowAnswer) -> Reply
     ensures { paper_reply result ≡ row_reply answer }
 {
     match answer {
-        RowAnswer::Done(w) => Reply::Value(w),
-        RowAnswer::Refused(r) => Reply::Refused(r),
+        Ok(w) => Reply::Value(w),
+        Err(r) => Reply::Refused(r),
     }
 }
 
@@ -36,8 +37,8 @@ pub fn fresh_reply(answer: FreshAnswer) -> Reply
     ensures { paper_reply result ≡ fresh_reply answer }
 {
     match answer {
-        FreshAnswer::Done => Reply::Value(0),
-        FreshAnswer::Refused(r) => Reply::Refused(r),
+        Ok(()) => Reply::Value(0),
+        Err(r) => Reply::Refused(r),
     }
 }
 
@@ -45,9 +46,9 @@ pub fn step_reply(answer: StepAnswer) -> Reply
     ensures { paper_reply result ≡ step_reply answer }
 {
     match answer {
-        StepAnswer::Idle => Reply::Idle,
-        StepAnswer::Applied { kind, freed } => Reply::Applied(kind, freed),
-        StepAnswer::Refused(r) => Reply::Refused(r),
+        Ok(Step::Idle) => Reply::Idle,
+        Ok(Step::Applied { kind, freed }) => Reply::Applied(kind, freed),
+        Err(r) => Reply::Refused(r),
     }
 }
 
@@ -55,17 +56,17 @@ pub fn audit_reply(answer: AuditAnswer) -> Reply
     ensures { paper_reply result ≡ audit_answer_reply answer }
 {
     match answer {
-        AuditAnswer::Sound => Reply::Sound,
-        AuditAnswer::Broken(r) => Reply::Broken(r),
-        AuditAnswer::Refused(r) => Reply::Refused(r),
+        Ok(Finding::Sound) => Reply::Sound,
+        Ok(Finding::Broken(r)) => Reply::Broken(r),
+        Err(r) => Reply::Refused(r),
     }
 }
 
 // Writing a text: the value is its length, in 16 bits as all values of a list.
 pub fn length_reply(answer: LengthAnswer) -> Reply {
     match answer {
-        LengthAnswer::Length(n) => Reply::Value((n % 65536) as u16),
-        LengthAnswer::Refused(r) => Reply::Refused(r),
+        Ok(n) => Reply::Value((n % 65536) as u16),
+        Err(r) => Reply::Refused(r),
     }
 }
 

@@ -80,20 +80,10 @@ fn write(table: &[u16], queue: Queue, word: u16, buffer: &mut [u8], f: u8) -> Ma
 
 // What put_text told, where the part handed back is as long; else a refusal that no writing has.
 fn agreed(put: LengthAnswer, handed: usize) -> LengthAnswer {
-    match put {
-        LengthAnswer::Length(n) => {
-            if n == handed {
-                return LengthAnswer::Length(n);
-            }
-            LengthAnswer::Refused(Refusal::NumberOutOfRange)
-        }
-        LengthAnswer::Refused(r) => {
-            if handed == 0 {
-                return LengthAnswer::Refused(r);
-            }
-            LengthAnswer::Refused(Refusal::NumberOutOfRange)
-        }
+    if put.unwrap_or(0) == handed {
+        return put;
     }
+    Err(Refusal::NumberOutOfRange)
 }
 
 // The calls without a text.

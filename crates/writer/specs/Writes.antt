@@ -1,8 +1,8 @@
 -- What writing a text gives, on every store: the machine's reply, and the buffer with it.
-use Rattle.std.specs.Prelude.{◌≡◌, List, [], ◌++◌, ℕ, length, drop}
+use Rattle.std.specs.Prelude.{Ok, Err, ◌≡◌, List, [], ◌++◌, ℕ, length, drop}
 use Rattle.machine.specs.declared.Queue.{Queue}
 use Rattle.machine.specs.declared.Refusal.{Refusal}
-use Rattle.machine.specs.declared.LengthAnswer.{LengthAnswer}
+use Rattle.machine.specs.Answers.{LengthAnswer}
 use Rattle.machine.specs.Calls.{write, Reply, store}
 use Rattle.machine.specs.Machine.{machine}
 use Rattle.machine.specs.Answers.{TellsLength, filled_part}
@@ -10,9 +10,9 @@ use Rattle.printer.specs.declared.Measured.{Measured}
 
 -- what was measured, as an answer
 abbrev pub answer_of : Measured → LengthAnswer
-answer_of (Measured.Bytes n) = LengthAnswer.Length n
-answer_of Measured.TooDeep = LengthAnswer.Refused Refusal.TooDeep
-answer_of Measured.NoRoom = LengthAnswer.Refused Refusal.BufferTooShort
+answer_of (Measured.Bytes n) = Ok n
+answer_of Measured.TooDeep = Err Refusal.TooDeep
+answer_of Measured.NoRoom = Err Refusal.BufferTooShort
 
 -- the machine's reply to writing the word w into so much room
 abbrev pub reply_to : List ℕ → Queue → ℕ → ℕ → Reply

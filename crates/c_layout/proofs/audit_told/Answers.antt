@@ -6,5 +6,5 @@ returns-in-Sound c = rw (c.in-Sound.is, c.tagged.ensures)
 pub returns-in-Broken : goal.returns-in-Broken
 returns-in-Broken c = rw (c.in-Broken.is, c.tagged-in-Broken.ensures, c.number.ensures)
 
-pub returns-in-Refused : goal.returns-in-Refused
-returns-in-Refused c = rw (c.in-Refused.is, c.refused.ensures)
+pub returns-in-Err : goal.returns-in-Err
+returns-in-Err c = rw (c.in-Err.is, c.refused.ensures)

@@ -2,8 +2,8 @@ use mathlib.Core.Path.{◌∙◌}
 use Rattle.c_layout.proofs.LengthLaws.{length_told, refusal_told}
 use Rattle.c_layout.proofs.length_told.Goals as goal
 
-pub returns-in-Length : goal.returns-in-Length
-returns-in-Length c reply h = c.tagged.ensures ∙ length_told c.in-Length.bytes reply (rw c.in-Length.is at h)
+pub returns-in-Ok : goal.returns-in-Ok
+returns-in-Ok c reply h = c.tagged.ensures ∙ length_told c.in-Ok.bytes reply (rw c.in-Ok.is at h)
 
-pub returns-in-Refused : goal.returns-in-Refused
-returns-in-Refused c reply h = c.refused.ensures ∙ refusal_told c.in-Refused.refusal reply (rw c.in-Refused.is at h)
+pub returns-in-Err : goal.returns-in-Err
+returns-in-Err c reply h = c.refused.ensures ∙ refusal_told c.in-Err.refusal reply (rw c.in-Err.is at h)

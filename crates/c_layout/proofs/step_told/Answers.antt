@@ -6,5 +6,5 @@ returns-in-Idle c = rw (c.in-Idle.is, c.tagged.ensures)
 pub returns-in-Applied : goal.returns-in-Applied
 returns-in-Applied c = rw (c.in-Applied.is, c.tagged-in-Applied.ensures)
 
-pub returns-in-Refused : goal.returns-in-Refused
-returns-in-Refused c = rw (c.in-Refused.is, c.refused.ensures)
+pub returns-in-Err : goal.returns-in-Err
+returns-in-Err c = rw (c.in-Err.is, c.refused.ensures)
