@@ -38,6 +38,7 @@ fn field_holds(table: &[u16], index: usize, k: usize) -> bool
 }
 
 // Stops at the first cell field that breaks the rule.
+// Kept: a labelled loop left from the inner one, in place of two `all`, since document 01 names the audit's S1 loop so.
 pub fn cells_sound(table: &[u16]) -> bool
     requires { TableShape table.now }
     ensures { result ≡ cells_sound table.now }
