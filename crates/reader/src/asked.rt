@@ -6,11 +6,11 @@ ghost use Rattle.machine.specs.Table.{first_free};
 ghost use Rattle.machine.specs.Queue.{slots, placed};
 ghost use Rattle.machine.specs.Facts.{TableShape};
 ghost use Rattle.machine.specs.Questions.{first_no};
-ghost use Rattle.machine.specs.Answers.{asked_number};
-ghost use Rattle.reader.specs.Called.{chain_has, pairs_number, tree_number, read_questions};
+ghost use Rattle.machine.specs.Answers.{refusal_number, asked_number};
+ghost use Rattle.reader.specs.Called.{chain_has, pairs_number, tree_number, fault_number, read_questions};
 
 use machine::{Asked, FIRST_ATOM, Queue, Refusal};
-use scanner::Scanned;
+use scanner::Fault;
 
 // The free chain has n cells: it is followed that far, whatever the table is.
 fn chain_has(table: &[u16], n: u16) -> bool
@@ -55,6 +55,16 @@ fn tree_asked(table: &[u16], count: u16, pairs: u16, largest: u16) -> Asked
     Asked::No(Refusal::ClippedReading)
 }
 
+// Questions 11 and 12, which a text without a tree fails.
+fn refusal(fault: Fault) -> Refusal
+    ensures { refusal_number result ≡ fault_number fault }
+{
+    match fault {
+        Fault::Outside => Refusal::NotInNotation,
+        Fault::TooDeep => Refusal::TooDeep,
+    }
+}
+
 // All of them: 1, 11, 12, 14, 7 and 8.
 pub fn text_asked(table: &[u16], place: u16, count: u16, text: &[u8]) -> Asked
     ensures { (q : Queue) → asked_number result ≡ first_no (read_questions table.now (placed q place count) text.now) }
@@ -64,8 +74,7 @@ pub fn text_asked(table: &[u16], place: u16, count: u16, text: &[u8]) -> Asked
     }
     let scanned = scanner::scan(text);
     match scanned {
-        Scanned::Outside => Asked::No(Refusal::NotInNotation),
-        Scanned::TooDeep => Asked::No(Refusal::TooDeep),
-        Scanned::Tree { pairs, largest } => tree_asked(table, count, pairs, largest),
+        Err(fault) => Asked::No(refusal(fault)),
+        Ok(tree) => tree_asked(table, count, tree.pairs, tree.largest),
     }
 }
