@@ -1,17 +1,15 @@
 -- Laws of roots.
 use mathlib.Core.Path.{◌≡◌}
-use mathlib.Core.Logic.{⊎_elim}
 use mathlib.Core.Bool.{true, false}
 use mathlib.Core.List.{List}
 use Prim.Native.Nat.{ℕ, ◌-◌, ◌≤◌, ◌<◌}
 use native.Mathlib.Numerals.{sub-one}
-use lib.Dec.{ltb, eqb}
-use borrow.Author.Tests.{ne_eqb, lt-ltb, le-ltb}
+use lib.Dec.{ltb}
+use borrow.Author.Tests.{lt-ltb, le-ltb}
 use Rattle.machine.specs.Words.{is_cell}
 use Rattle.machine.specs.Table.{root_count, name_count, capacity, word_at}
 use Rattle.machine.specs.Reached.{is_protected, is_root}
 use Rattle.machine.specs.ShortWay.{stays_root}
-use Rattle.machine.proofs.Range.{tested}
 
 -- a root by its root count, or told by its name count
 module _ (t : List ℕ) (i : ℕ) where
