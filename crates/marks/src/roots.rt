@@ -8,7 +8,7 @@ ghost use Rattle.machine.specs.ShortWay.{watched_of, stays_root};
 
 use machine::{NameCount, RootCount};
 use questions::is_cell;
-use queue::Packet;
+use queue::Kind;
 
 // Whether a cell is a root.
 #[tactic(auto, unfolding(machine::specs::Reached::is_root, machine::specs::Reached::is_protected))]
@@ -20,14 +20,15 @@ pub fn rooted(table: &[u16], index: usize) -> bool
 }
 
 // The word of a taken packet that tells whether anything can be freed.
+#[tactic(auto, unfolding(machine::specs::ShortWay::watched_of))]
 pub fn watched_of(kind: u16, a: u16, b: u16, c: u16) -> u16
     ensures { result ≡ watched_of (kind_of kind) a b c }
 {
-    match kind {
-        Packet::READ | Packet::DOWN => a,
-        Packet::CONS => c,
-        Packet::REPLACE_LEFT | Packet::REPLACE_RIGHT => b,
-        _ => 0,
+    match Kind::of(kind) {
+        Some(Kind::Read | Kind::Down) => a,
+        Some(Kind::Cons) => c,
+        Some(Kind::ReplaceLeft | Kind::ReplaceRight) => b,
+        Some(Kind::Up) | None => 0,
     }
 }
 
