@@ -5,7 +5,8 @@
 mod part;
 
 ghost use Rattle.std.specs.Prelude.{◌≡◌, suc, ◌≤◌, length, set};
-ghost use Rattle.machine.specs.Table.{header, right, state, new_cell, free_cell, capacity, first_free, last_free, table_length, scratch_words, word_at, put_word, put_ends, put_cell, in_use};
+ghost use Rattle.machine.specs.Table.{header, right, state, new_cell, free_cell, capacity, first_free, last_free, table_length};
+ghost use Rattle.machine.specs.Table.{scratch_words, word_at, put_word, put_ends, put_cell, in_use};
 ghost use Rattle.machine.specs.Step.{counter_word};
 
 use machine::{CellCount, Counter, NameCount, RootCount};

@@ -1,4 +1,5 @@
-// Changes of the counters in the table's cells, of 16 bits each: a packet's count changes, and the names that it gives and gives up. Figure 8's rrc_up, rrc_down, crc_up and crc_down, by n at once, are made where the word is a cell: nil and atoms have no counts.
+// Changes of the counters in the table's cells, of 16 bits each: a packet's count changes, and the names that it gives and gives up. Figure 8's
+// rrc_up, rrc_down, crc_up and crc_down, by n at once, are made where the word is a cell: nil and atoms have no counts.
 #![tactic(auto)]
 
 pub mod names;
@@ -25,6 +26,7 @@ pub fn cell_index(table: &[u16], w: u16) -> Option<usize>
     }
 }
 
+// One counter of the cell that w names, of the sort that K is, raised or lowered by n.
 pub fn up<K: Counter>(table: &mut [u16], w: u16, n: u16)
     requires { table_length (capacity table.old) ≤ length table.old }
     ensures { Moves table.old K.sort w plus n table.new }
