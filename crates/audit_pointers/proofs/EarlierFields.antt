@@ -7,7 +7,7 @@ use Prim.Native.Nat.{ℕ, zero, suc, pred, ◌+◌, ◌-◌, ◌%◌, ◌≤◌,
 use native.Mathlib.Omega.{arith}
 use lib.Dec.{leb, ltb, eqb, eqb-suc-suc}
 use lib.ListN.{length}
-use borrow.Author.Tests.{leb-true, eqb-true, ne_eqb}
+use borrow.Author.Tests.{leb-true, eqb-true}
 use Rattle.machine.specs.declared.Queue.{Queue}
 use Rattle.machine.specs.Audit.{field_sound, words_of_kind, packet_legal, names_in_use, packets_legal, undoable_of, undone_of, undoable, undone, before}
 use Rattle.machine.specs.Packets.{Kind, reads, makes, replaces, raises, lowers, unknown, kind_of, names_of, names}
@@ -199,10 +199,6 @@ stage_field_lem t (p ∷ ps) f a i k l =
     field_undone t (before t ps) (refielded t ps a.1) f (kind_of p.kind) p.a p.b p.c a.0 i k l
     ∙ ap (field_before_of (kind_of p.kind) p.b p.c i k) (stage_field_lem t ps f a.1 i k l)
 
-pub before_by : (p : Packet) (i k w : ℕ) (κ : Kind) → kind_of p.kind ≡ κ → field_before_of κ p.b p.c i k w ≡ field_before p i k w
-unfolding field_before
-before_by p i k w κ e = rw e
-
 -- one packet more undone
 pub stage_less : (t : List ℕ) (q : Queue) (i k w j : ℕ) → 0 < j → j ≤ q.count → w ≡ stage_field t (newer q j) i k
     → field_before (packet_on q (j - 1)) i k w ≡ stage_field t (newer q (j - 1)) i k
@@ -225,27 +221,13 @@ Keeps raises = Unit {0}
 Keeps lowers = Unit {0}
 Keeps unknown = Unit {0}
 
-keeps_cond : (b : Bool) (x y : Kind) → Keeps x → Keeps y → Keeps (cond b x y)
-keeps_cond true x y h k = h
-keeps_cond false x y h k = k
-
-pub keeps : (k : ℕ) → (k ≡ 2 → ⊥) → (k ≡ 3 → ⊥) → (k ≡ 6 → ⊥) → Keeps (kind_of k)
-unfolding kind_of
-keeps k a b c =
-    rw (ne_eqb k 2 a, ne_eqb k 3 b, ne_eqb k 6 c)
-    (keeps_cond (eqb k 1) reads _ tt (keeps_cond (eqb k 4) raises _ tt (keeps_cond (eqb k 5) lowers unknown tt tt)))
-
-pub kept_field : (p : Packet) (i k w : ℕ) → Keeps (kind_of p.kind) → field_before p i k w ≡ w
-unfolding field_before
-kept_field p i k w h = go (kind_of p.kind) h
-  where
-    go : (κ : Kind) → Keeps κ → field_before_of κ p.b p.c i k w ≡ w
-    go reads h = unfold field_before_of in refl
-    go makes h = absurd h
-    go (replaces f) h = absurd h
-    go raises h = unfold field_before_of in refl
-    go lowers h = unfold field_before_of in refl
-    go unknown h = unfold field_before_of in refl
+pub keeps : (κ : Kind) → (κ ≡ makes → ⊥) → ((k : ℕ) → κ ≡ replaces k → ⊥) → Keeps κ
+keeps reads f g = tt
+keeps makes f g = f refl
+keeps (replaces k) f g = g k refl
+keeps raises f g = tt
+keeps lowers f g = tt
+keeps unknown f g = tt
 
 pub kept_undo : (v : List ℕ) (p : Packet) → Keeps (kind_of p.kind) → (undone v p ≡ v) × (undoable v p ≡ true)
 unfolding undone undoable

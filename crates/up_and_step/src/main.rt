@@ -6,7 +6,7 @@ ghost use Rattle.std.specs.Prelude.{◌*◌, ◌≤◌};
 
 use base_ten::bytes::split_once;
 use base_ten::numbers::number;
-use machine::{Queue, RowAnswer, StepAnswer};
+use machine::{Queue, RowAnswer, Step, StepAnswer};
 use std::io;
 
 const CELLS: u16 = 64;
@@ -25,8 +25,8 @@ fn row_done(answer: RowAnswer) -> u64
     ensures { result ≤ 1 }
 {
     match answer {
-        RowAnswer::Done(_) => 1,
-        RowAnswer::Refused(_) => 0,
+        Ok(_) => 1,
+        Err(_) => 0,
     }
 }
 
@@ -34,16 +34,10 @@ fn step_done(answer: StepAnswer) -> u64
     ensures { result ≤ 1 }
 {
     match answer {
-        StepAnswer::Applied { kind: _, freed: _ } => 1,
-        StepAnswer::Idle => 0,
-        StepAnswer::Refused(_) => 0,
+        Ok(Step::Applied { kind: _, freed: _ }) => 1,
+        Ok(Step::Idle) => 0,
+        Err(_) => 0,
     }
-}
-
-fn count(up: RowAnswer, first: StepAnswer, down: RowAnswer, second: StepAnswer) -> u64
-    ensures { result ≤ 4 }
-{
-    row_done(up) + step_done(first) + row_done(down) + step_done(second)
 }
 
 fn round(table: &mut [u16], queue: Queue, scratch: &mut [u16]) -> Counted
@@ -53,14 +47,12 @@ fn round(table: &mut [u16], queue: Queue, scratch: &mut [u16]) -> Counted
     let first = store::step(table, up.queue, scratch);
     let down = store::down(table, first.queue, 1, 1);
     let second = store::step(table, down.queue, scratch);
-    let up_answer = up.answer;
-    let first_answer = first.answer;
-    let down_answer = down.answer;
-    let second_answer = second.answer;
-    let after = second.queue;
     Counted {
-        queue: after,
-        done: count(up_answer, first_answer, down_answer, second_answer),
+        queue: second.queue,
+        done: row_done(up.answer)
+            + step_done(first.answer)
+            + row_done(down.answer)
+            + step_done(second.answer),
     }
 }
 
@@ -68,17 +60,13 @@ fn round(table: &mut [u16], queue: Queue, scratch: &mut [u16]) -> Counted
 fn rounds(table: &mut [u16], queue: Queue, scratch: &mut [u16], n: u32) -> u64
     ensures { result ≤ 4 * n }
 {
-    let mut present = queue;
-    let mut done: u64 = 0;
-    let mut i: u32 = 0;
-    while i < n {
-        let counted = round(table, present, scratch);
-        let after = counted.queue;
-        present = after;
-        done += counted.done;
-        i += 1;
+    let mut counted = Counted { queue, done: 0 };
+    for i in 0..n {
+        let round = round(table, counted.queue, scratch);
+        counted.queue = round.queue;
+        counted.done += round.done;
     }
-    done
+    counted.done
 }
 
 // The same, in a store of one held cell.
