@@ -98,7 +98,7 @@ pub fn take_input<R: io::Read, W: io::Write, S: Feed>(
     ensures { TakesInput S.feeds service.old (R.remaining reader.old) (W.contents writer.old)
         result service.new (R.remaining reader.new) (W.contents writer.new) }
 {
-    for _ in 0..u64::MAX {
+    'reads: for _ in 0..u64::MAX {
         let Some(n) = read_front(reader, input)? else {
             return Ok(()); // the end of the input
         };
