@@ -44,6 +44,7 @@ pub fn read_full<R: io::Read>(reader: &mut R, input: &mut [u8]) -> usize
     ensures within { result ≤ length input.new }
     ensures bytes { Consumes (R.remaining reader.old) (R.remaining reader.new) (take result input.new) }
 {
+    // Kept: (d) a step is as long as what the read gave, and no `for` has such steps.
     let mut done = 0;
     while done < input.len() {
         let Ok(Some(n)) = read_front(reader, &mut input[done..]) else {
@@ -60,6 +61,7 @@ pub fn write_all<W: io::Write>(writer: &mut W, bytes: &[u8]) -> Result<(), Failu
     ensures bytes { Adds (W.contents writer.old) (W.contents writer.new) bytes.now result }
     ensures failure { IfErr result (λ e. e ≡ Failure.Writing) }
 {
+    // Kept: (d) a step is as long as what the write took, and no `for` has such steps.
     let mut done = 0;
     while done < bytes.len() {
         match writer.write(&bytes[done..]) {

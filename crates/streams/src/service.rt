@@ -76,6 +76,7 @@ fn relay<W: io::Write, S: Feed>(
     ensures relays { Relays S.feeds service.old input.now (W.contents writer.old) result service.new (W.contents writer.new) }
     ensures failure { IfErr result (λ e. e ≡ Failure.Writing) }
 {
+    // Kept: (d) a step is as long as what the call took, and no `for` has such steps.
     let mut from = 0;
     while from < input.len() {
         let fed = service.feed(&input[from..], out);
@@ -98,7 +99,7 @@ pub fn take_input<R: io::Read, W: io::Write, S: Feed>(
     ensures { TakesInput S.feeds service.old (R.remaining reader.old) (W.contents writer.old)
         result service.new (R.remaining reader.new) (W.contents writer.new) }
 {
-    for _ in 0..u64::MAX {
+    'reads: for _ in 0..u64::MAX {
         let Some(n) = read_front(reader, input)? else {
             return Ok(()); // the end of the input
         };
