@@ -11,6 +11,7 @@ ghost use Rattle.c_layout.specs.Replies.{reply, tag_number, told, LengthTold};
 use machine::{AuditAnswer, FreshAnswer, LengthAnswer, Refusal, RowAnswer, StepAnswer};
 
 // In C `struct row_reply`.
+// Kept: (a) the tag is a number here: C reads it, `reply` and `said` of specs/Replies go by it, and an enum has no `repr`.
 #[repr(C)]
 #[derive(Clone, Copy)]
 pub struct Reply {
