@@ -2,6 +2,7 @@
 use mathlib.Core.Path.{◌≡◌, refl, sym, ◌∙◌}
 use mathlib.Core.Bool.{Bool, true, false, cond}
 use mathlib.Core.List.{List, [], ◌∷◌}
+use Rattle.std.specs.Prelude.{Some, None}
 use Prim.Native.Nat.{ℕ, ◌+◌, ◌-◌, ◌≤◌, ◌<◌}
 use native.Mathlib.Numerals.{add-one}
 use native.Mathlib.Omega.{arith}
@@ -25,44 +26,44 @@ abbrev isnt : List ℕ → String → Type 0
 isnt k word = same_bytes k (ascii word) ≡ false
 
 module _ (k : List ℕ) (x : ℕ) where
-  pub one_fresh : is k "fresh" → Request.Fresh x ≡ with_one k x
+  pub one_fresh : is k "fresh" → Some (Request.Fresh x) ≡ with_one k x
   unfolding with_one
   one_fresh h₁ = rw (h₁)
 
-  pub one_car : isnt k "fresh" → is k "car" → Request.Row (RowCall.Car x) ≡ with_one k x
+  pub one_car : isnt k "fresh" → is k "car" → Some (Request.Row (RowCall.Car x)) ≡ with_one k x
   unfolding with_one
   one_car h₁ h₂ = rw (h₁, h₂)
 
-  pub one_cdr : isnt k "fresh" → isnt k "car" → is k "cdr" → Request.Row (RowCall.Cdr x) ≡ with_one k x
+  pub one_cdr : isnt k "fresh" → isnt k "car" → is k "cdr" → Some (Request.Row (RowCall.Cdr x)) ≡ with_one k x
   unfolding with_one
   one_cdr h₁ h₂ h₃ = rw (h₁, h₂, h₃)
 
-  pub one_bad : isnt k "fresh" → isnt k "car" → isnt k "cdr" → Request.Bad ≡ with_one k x
+  pub one_bad : isnt k "fresh" → isnt k "car" → isnt k "cdr" → None ≡ with_one k x
   unfolding with_one
   one_bad h₁ h₂ h₃ = rw (h₁, h₂, h₃)
 
 module _ (k : List ℕ) (x y : ℕ) where
-  pub two_cons : is k "cons" → Request.Row (RowCall.Cons x y) ≡ with_two k x y
+  pub two_cons : is k "cons" → Some (Request.Row (RowCall.Cons x y)) ≡ with_two k x y
   unfolding with_two
   two_cons h₁ = rw (h₁)
 
-  pub two_setl : isnt k "cons" → is k "setl" → Request.Row (RowCall.SetLeft x y) ≡ with_two k x y
+  pub two_setl : isnt k "cons" → is k "setl" → Some (Request.Row (RowCall.SetLeft x y)) ≡ with_two k x y
   unfolding with_two
   two_setl h₁ h₂ = rw (h₁, h₂)
 
-  pub two_setr : isnt k "cons" → isnt k "setl" → is k "setr" → Request.Row (RowCall.SetRight x y) ≡ with_two k x y
+  pub two_setr : isnt k "cons" → isnt k "setl" → is k "setr" → Some (Request.Row (RowCall.SetRight x y)) ≡ with_two k x y
   unfolding with_two
   two_setr h₁ h₂ h₃ = rw (h₁, h₂, h₃)
 
-  pub two_up : isnt k "cons" → isnt k "setl" → isnt k "setr" → is k "up" → Request.Row (RowCall.Up x y) ≡ with_two k x y
+  pub two_up : isnt k "cons" → isnt k "setl" → isnt k "setr" → is k "up" → Some (Request.Row (RowCall.Up x y)) ≡ with_two k x y
   unfolding with_two
   two_up h₁ h₂ h₃ h₄ = rw (h₁, h₂, h₃, h₄)
 
-  pub two_down : isnt k "cons" → isnt k "setl" → isnt k "setr" → isnt k "up" → is k "down" → Request.Row (RowCall.Down x y) ≡ with_two k x y
+  pub two_down : isnt k "cons" → isnt k "setl" → isnt k "setr" → isnt k "up" → is k "down" → Some (Request.Row (RowCall.Down x y)) ≡ with_two k x y
   unfolding with_two
   two_down h₁ h₂ h₃ h₄ h₅ = rw (h₁, h₂, h₃, h₄, h₅)
 
-  pub two_bad : isnt k "cons" → isnt k "setl" → isnt k "setr" → isnt k "up" → isnt k "down" → Request.Bad ≡ with_two k x y
+  pub two_bad : isnt k "cons" → isnt k "setl" → isnt k "setr" → isnt k "up" → isnt k "down" → None ≡ with_two k x y
   unfolding with_two
   two_bad h₁ h₂ h₃ h₄ h₅ = rw (h₁, h₂, h₃, h₄, h₅)
 
@@ -86,11 +87,11 @@ some_word (x ∷ xs) = go (eqb x space) (some_word xs)
     go true r = ([], split space ([] ∷ []) xs, refl)
     go false r = (x ∷ r.0, r.1, rw r.2)
 
-pub too_many_lem : (k a s : List ℕ) (n : ℕ) → n ≡ before space s → n ≤ length s → (n ≡ length s → ⊥) → Request.Bad ≡ by_words (k ∷ a ∷ words_of s)
+pub too_many_lem : (k a s : List ℕ) (n : ℕ) → n ≡ before space s → n ≤ length s → (n ≡ length s → ⊥) → None ≡ by_words (k ∷ a ∷ words_of s)
 unfolding by_words
 too_many_lem k a s n e l h = let w = some_word (drop (n + 1) s) in rw (words_more s n e l h, w.2)
 
-pub line_long : (s : List ℕ) → most_bytes < length s → Request.Bad ≡ request_of s
+pub line_long : (s : List ℕ) → most_bytes < length s → None ≡ request_of s
 unfolding request_of
 line_long s h = rw (lt-leb (length s) most_bytes h)
 
@@ -108,11 +109,11 @@ unfolding by_words
 both_words k u s n a b ea eb e h = rw (words_one s n e h, ea, eb)
 
 -- the one call that is a word alone
-pub alone_step : (s : List ℕ) → is s "step" → Request.Step ≡ request_of s
+pub alone_step : (s : List ℕ) → is s "step" → Some Request.Step ≡ request_of s
 unfolding split same_bytes with_none by_words request_of
 alone_step s h = rw (same_equal s (ascii "step") h)
 
-pub alone_bad : (s : List ℕ) (n : ℕ) → n ≡ before space s → n ≡ length s → length s ≤ most_bytes → isnt s "step" → Request.Bad ≡ request_of s
+pub alone_bad : (s : List ℕ) (n : ℕ) → n ≡ before space s → n ≡ length s → length s ≤ most_bytes → isnt s "step" → None ≡ request_of s
 unfolding with_none by_words
 alone_bad s n e h l other = rw (← line_short s l, words_one s n e h, other)
 

@@ -16,67 +16,67 @@ pub const MOST_BYTES: usize = 80;
 // The largest operand.
 const MOST_OPERAND: u32 = u16::MAX as u32;
 
-fn with_one(word: &[u8], x: u16) -> Request
+fn with_one(word: &[u8], x: u16) -> Option<Request>
     ensures { result ≡ with_one word.now x }
 {
     if same(word, b"fresh") {
-        return Request::Fresh(x);
+        return Some(Request::Fresh(x));
     }
     if same(word, b"car") {
-        return Request::Row(RowCall::Car(x));
+        return Some(Request::Row(RowCall::Car(x)));
     }
     if same(word, b"cdr") {
-        return Request::Row(RowCall::Cdr(x));
+        return Some(Request::Row(RowCall::Cdr(x)));
     }
-    Request::Bad
+    None
 }
 
-fn with_two(word: &[u8], x: u16, y: u16) -> Request
+fn with_two(word: &[u8], x: u16, y: u16) -> Option<Request>
     ensures { result ≡ with_two word.now x y }
 {
     if same(word, b"cons") {
-        return Request::Row(RowCall::Cons(x, y));
+        return Some(Request::Row(RowCall::Cons(x, y)));
     }
     if same(word, b"setl") {
-        return Request::Row(RowCall::SetLeft(x, y));
+        return Some(Request::Row(RowCall::SetLeft(x, y)));
     }
     if same(word, b"setr") {
-        return Request::Row(RowCall::SetRight(x, y));
+        return Some(Request::Row(RowCall::SetRight(x, y)));
     }
     if same(word, b"up") {
-        return Request::Row(RowCall::Up(x, y));
+        return Some(Request::Row(RowCall::Up(x, y)));
     }
     if same(word, b"down") {
-        return Request::Row(RowCall::Down(x, y));
+        return Some(Request::Row(RowCall::Down(x, y)));
     }
-    Request::Bad
+    None
 }
 
-fn if_one(word: &[u8], a: Number) -> Request
+fn if_one(word: &[u8], a: Number) -> Option<Request>
     requires { AtMost most_operand a }
     ensures { result ≡ if_one word.now a }
 {
     match a {
         Number::Value(x) => with_one(word, x as u16),
-        Number::Nothing => Request::Bad,
+        Number::Nothing => None,
     }
 }
 
-fn if_both(word: &[u8], a: Number, b: Number) -> Request
+fn if_both(word: &[u8], a: Number, b: Number) -> Option<Request>
     requires { AtMost most_operand a × AtMost most_operand b }
     ensures { result ≡ if_both word.now a b }
 {
     let Number::Value(x) = a else {
-        return Request::Bad;
+        return None;
     };
     match b {
         Number::Value(y) => with_two(word, x as u16, y as u16),
-        Number::Nothing => Request::Bad,
+        Number::Nothing => None,
     }
 }
 
 // After the keyword, an operand's word and a space.
-fn second_operand(word: &[u8], first: &[u8], rest: &[u8]) -> Request
+fn second_operand(word: &[u8], first: &[u8], rest: &[u8]) -> Option<Request>
     ensures { result ≡ by_words (word.now ∷ first.now ∷ words_of rest.now) }
 {
     let end = find(rest, b' ');
@@ -87,11 +87,11 @@ fn second_operand(word: &[u8], first: &[u8], rest: &[u8]) -> Request
             number(rest, MOST_OPERAND),
         );
     }
-    Request::Bad
+    None
 }
 
 // After the keyword and a space.
-fn operands(word: &[u8], rest: &[u8]) -> Request
+fn operands(word: &[u8], rest: &[u8]) -> Option<Request>
     ensures { result ≡ by_words (word.now ∷ words_of rest.now) }
 {
     let end = find(rest, b' ');
@@ -103,18 +103,18 @@ fn operands(word: &[u8], rest: &[u8]) -> Request
 }
 
 // The one call without an operand is told before a space is looked for.
-pub fn parse(line: &[u8]) -> Request
+pub fn parse(line: &[u8]) -> Option<Request>
     ensures { result ≡ request_of line.now }
 {
     if MOST_BYTES < line.len() {
-        return Request::Bad;
+        return None;
     }
     if same(line, b"step") {
-        return Request::Step;
+        return Some(Request::Step);
     }
     let end = find(line, b' ');
     if end == line.len() {
-        return Request::Bad;
+        return None;
     }
     let next = end + 1;
     operands(&line[..end], &line[next..])

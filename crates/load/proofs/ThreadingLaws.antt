@@ -1,12 +1,13 @@
 -- What the load program's steps hand on.
 use mathlib.Core.Path.{◌≡◌, refl, sym, ap, ◌∙◌}
-use mathlib.Core.Bool.{Bool, true, false}
+use mathlib.Core.Bool.{true, false}
 use mathlib.Core.List.{List, [], ◌∷◌, ◌++◌}
-use Prim.Native.Nat.{ℕ, ◌+◌, ◌-◌, ◌^◌, ◌≤◌, ◌<◌, zero-le}
+use Prim.Native.Nat.{ℕ, ◌+◌, ◌-◌, ◌^◌, ◌≤◌, ◌<◌}
 use native.Mathlib.Omega.{arith}
+use Rattle.std.specs.Prelude.{Option}
 use lib.ListN.{length, take, replicate, length-append}
 use lib.Seq.{length-take-le}
-use borrow.Author.Tests.{leb-true, le-leb}
+use borrow.Author.Tests.{leb-true}
 use Rattle.line_text.specs.Kept.{kept_bytes, Keeps}
 use Rattle.streams.specs.declared.Outcome.{Outcome}
 use Rattle.streams.specs.declared.Read as declared
@@ -16,7 +17,7 @@ use Rattle.serving.proofs.ChainLaws.{linked_both, last_both, joined_both}
 use Rattle.traffic.specs.declared.Workload.{Workload}
 use Rattle.traffic.specs.Workload.{workload_of}
 use Rattle.load_lines.specs.declared.Load.{Load}
-use Rattle.load_lines.specs.Progress.{started, is_more, both_room, Writes}
+use Rattle.load_lines.specs.Progress.{calls_of, is_more, both_room, Writes}
 use Rattle.load_lines.specs.Whole.{Kept, kept_input, Read, KeptPart, Reads, last_kept, part, inputs, State, Part, WrotePart, Wrote, last_state, left, nothing, begin}
 use Rattle.load_lines.specs.Whole as whole-specs
 use Rattle.load_lines.proofs.Theorem.{whole}
@@ -45,7 +46,7 @@ module _ {k k' k'' : Kept} (bytes : List ℕ) (g : Gathers k k') (keeps : Keeps 
 pub record Reading (line : List ℕ) (outcome : Outcome) (reads : ℕ) (k : Kept) : Type 0 where
   pub gathers : Gathers (nothing line) k
   pub size : length k.line ≡ length line
-  pub most : k.held ≤ kept_bytes
+  pub most : k.held ≤ length k.line
   pub counted : Counted outcome reads (inputs gathers.reads)
 
 module _ {line : List ℕ} {o : Outcome} {reads : ℕ} {k : Kept} (a : Reading line o reads k) (l : 0 < reads) where
@@ -54,7 +55,7 @@ module _ {line : List ℕ} {o : Outcome} {reads : ℕ} {k : Kept} (a : Reading l
   reading_bytes bytes some keeps =
       let g = gathers_more bytes a.gathers keeps in
       let so_far = going o reads (inputs a.gathers.reads) a.counted l in
-      record { gathers = g; size = keeps.size ∙ a.size; most = keeps.most; counted = omega (arith, more_bytes bytes a.gathers keeps) }
+      record { gathers = g; size = keeps.size ∙ a.size; most = omega (arith, keeps.most, keeps.size); counted = omega (arith, more_bytes bytes a.gathers keeps) }
 
   reading_over : (o' : Outcome) → Counted o' (remaining reads o') (inputs a.gathers.reads) → Reading line o' (remaining reads o') k
   reading_over o' counted = record { gathers = a.gathers; size = a.size; most = a.most; counted = counted }
@@ -78,55 +79,48 @@ reading_none line = record {
   counted = omega arith;
 }
 
-pub reading_all : {line : List ℕ} {o : Outcome} {k : Kept} → Reading line o 0 k → ReadsAll line o k
-reading_all a = record { gathers = a.gathers; size = a.size; most = a.most; counted = a.counted }
+pub reading_all : {line : List ℕ} {o : Outcome} {k : Kept} → length line ≡ kept_bytes → Reading line o 0 k → ReadsAll line o k
+reading_all whole a = record { gathers = a.gathers; size = a.size; most = omega (arith, a.most, a.size, whole); counted = a.counted }
 
 -- How far the writing has come.
-pub record Sending (s₀ s : State) (more : Bool) : Type 0 where
+pub record Sending (s₀ s : State) : Type 0 where
   pub parts : List Part
   pub wrote : Wrote s₀ parts
   pub last : last_state s₀ parts ≡ s
-  pub goes : more ≡ is_more s.load
 
-pub sending_none : (s : State) {more : Bool} → is_more s.load ≡ more → Sending s s more
-sending_none s e = record { parts = []; wrote = tt; last = refl; goes = sym e }
+pub sending_none : (s : State) → Sending s s
+sending_none s = record { parts = []; wrote = tt; last = refl }
 
 -- one call of `next` more
-pub sending_more : {s₀ : State} {l : Load} {t scratch : List ℕ} {more : Bool} {l' : Load} {written : ℕ} {more' : Bool} {t' scratch' out : List ℕ}
-    → Sending s₀ (state l t scratch) more → Writes l t scratch l' written more' t' scratch' out → Sending s₀ (state l' t' scratch') more'
-sending_more {s₀} {l' = l'} {written = written} {more' = more'} {t' = t'} {scratch' = scratch'} {out = out} a w =
-    let p : List Part = record { buffer = out; written = written; more = more'; after = state l' t' scratch' } ∷ [] in
+pub sending_more : {s₀ : State} {l : Load} {t scratch : List ℕ} {l' : Load} {written : ℕ} {t' scratch' out : List ℕ}
+    → Sending s₀ (state l t scratch) → Writes l t scratch l' written t' scratch' out → Sending s₀ (state l' t' scratch')
+sending_more {s₀} {l' = l'} {written = written} {t' = t'} {scratch' = scratch'} {out = out} a w =
+    let p : List Part = record { buffer = out; written = written; after = state l' t' scratch' } ∷ [] in
     record {
       parts = a.parts ++ p;
       wrote = linked_both WrotePart left s₀ a.parts p a.wrote (rw a.last (w, tt));
       last = last_both left s₀ a.parts p;
-      goes = w.going;
     }
 
 -- each call makes some of the calls that are left
-pub fewer_left : {l : Load} {t scratch : List ℕ} {l' : Load} {written : ℕ} {more more' : Bool} {t' scratch' out : List ℕ}
-    → more ≡ is_more l → more ≡ true → both_room ≤ length out → Writes l t scratch l' written more' t' scratch' out
-    → l'.calls + 1 - l'.done < l.calls + 1 - l.done
-fewer_left {l} {l' = l'} e h r w =
-    let within : l.done ≤ l.calls = leb-true l.done l.calls (sym e ∙ h) in
-    omega (arith, w.some within r, w.calls)
+pub fewer_left : {l : Load} {t scratch : List ℕ} {l' : Load} {written : ℕ} {t' scratch' out : List ℕ}
+    → is_more l ≡ true → both_room ≤ length out → Writes l t scratch l' written t' scratch' out
+    → calls_of l'.asked + 1 - l'.done < calls_of l.asked + 1 - l.done
+fewer_left {l} {l' = l'} e r w =
+    let within : l.done ≤ calls_of l.asked = leb-true l.done (calls_of l.asked) e in
+    omega (arith, w.some within r, ap calls_of w.asked)
 
-pub sending_over : {s₀ s : State} → Sending s₀ s false → Sends s₀ Outcome.End
-sending_over a = record { parts = a.parts; wrote = a.wrote; over = rw a.last (sym a.goes) }
+pub sending_over : {s₀ s : State} → Sending s₀ s → is_more s.load ≡ false → Sends s₀ Outcome.End
+sending_over a over = record { parts = a.parts; wrote = a.wrote; over = rw a.last over }
 
-pub sending_failed : {s₀ s : State} {more : Bool} → Sending s₀ s more → Sends s₀ Outcome.Failed
+pub sending_failed : {s₀ s : State} → Sending s₀ s → Sends s₀ Outcome.Failed
 sending_failed a = record { parts = a.parts; wrote = a.wrote; over = tt }
-
--- a load that has begun has something to write
-pub begun_more : (w : Workload) → is_more (started w) ≡ true
-begun_more (Workload.Run seed c n) = le-leb 0 n zero-le
-begun_more Workload.Bad = refl
 
 -- the whole run
 abbrev zeros : List ℕ
 zeros = replicate kept_bytes 0
 
-listed : {k : Kept} {asked : Workload} (r : ReadsAll zeros Outcome.End k) → asked ≡ workload_of (kept_input k) → (s : Sends (begin asked) Outcome.End)
+listed : {k : Kept} {asked : Option Workload} (r : ReadsAll zeros Outcome.End k) → asked ≡ workload_of (kept_input k) → (s : Sends (begin asked) Outcome.End)
     → Listed r.gathers.reads (last_kept (nothing zeros) r.gathers.reads)
 listed r e s =
     let wrote : Wrote (begin (workload_of (kept_input (last_kept (nothing zeros) r.gathers.reads)))) s.parts =
@@ -138,7 +132,7 @@ listed r e s =
 run_with : {k : Kept} (o : Outcome) (r : Gathers (nothing zeros) k) → Ends o r.reads (last_kept (nothing zeros) r.reads) → Runs o
 run_with o r ends = record { reads = r.reads; gathered = r.kept; ends = ends }
 
-pub runs : {k : Kept} {asked : Workload} (o result : Outcome) → ReadsAll zeros o k → asked ≡ workload_of (kept_input k) → Concludes o asked result
+pub runs : {k : Kept} {asked : Option Workload} (o result : Outcome) → ReadsAll zeros o k → asked ≡ workload_of (kept_input k) → Concludes o asked result
     → Runs result
 runs Outcome.More result r e c = rw c (run_with Outcome.More r.gathers (omega (arith, r.counted)))
 runs Outcome.Failed result r e c = rw c (run_with Outcome.Failed r.gathers tt)

@@ -1,6 +1,6 @@
 -- What the load program hands on: the calls of `keep` and of `next` make the lists that the theorem on whole loads wants (load_lines/specs/Whole). That a
 -- part is what was read, and that the output is written, is not stated: std's contracts say nothing of the bytes of the system's streams.
-use Rattle.std.specs.Prelude.{◌≡◌, false, List, ℕ, ◌+◌, ◌^◌, ◌≤◌, length, take, replicate}
+use Rattle.std.specs.Prelude.{◌≡◌, Option, false, List, ℕ, ◌+◌, ◌^◌, ◌≤◌, length, take, replicate}
 use Rattle.line_text.specs.Kept.{kept_bytes, Keeps}
 use Rattle.streams.specs.declared.Outcome.{Outcome}
 use Rattle.streams.specs.declared.Read as declared
@@ -55,7 +55,7 @@ pub record Sends (s : State) (outcome : Outcome) : Type 0 where
   pub over : Over outcome (last_state s parts)
 
 -- only at the end of the input something is written
-abbrev pub Concludes : Outcome → Workload → Outcome → Type 0
+abbrev pub Concludes : Outcome → Option Workload → Outcome → Type 0
 Concludes Outcome.More asked result = result ≡ Outcome.More
 Concludes Outcome.End asked result = Sends (begin asked) result
 Concludes Outcome.Failed asked result = result ≡ Outcome.Failed

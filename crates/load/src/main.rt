@@ -3,10 +3,10 @@
 // of the input, and that the output is written.
 #![tactic(auto)]
 
-ghost use Rattle.std.specs.Prelude.{◌≡◌, true, ◌≤◌, length};
+ghost use Rattle.std.specs.Prelude.{◌≡◌, None, ◌≤◌, length};
 ghost use Rattle.line_text.specs.Kept.{kept_bytes};
 ghost use Rattle.streams.specs.Reading.{Within};
-ghost use Rattle.load_lines.specs.Progress.{is_more, both_room};
+ghost use Rattle.load_lines.specs.Progress.{both_room};
 ghost use Rattle.load_lines.specs.Whole.{begin};
 ghost use Rattle.load.specs.Threading.{kept, state, Follows, ReadsPart, ReadsAll, Sends, Concludes, Runs};
 
@@ -109,18 +109,16 @@ fn send<W: io::Write, E: io::Write>(
     scratch: &mut [u16],
     out: &mut [u8],
 ) -> Outcome
-    requires { (is_more load ≡ true) × (both_room ≤ length out.old) }
+    requires { both_room ≤ length out.old }
     ensures { Sends (state load table.old scratch.old) result }
 {
     let mut present = load;
-    let mut more = true;
-    while more {
+    while present.is_more() {
         let before = present;
         let written = load_lines::next(before, table, scratch, out);
         let after = written.load;
         let end = written.written;
         present = after;
-        more = written.more;
         if !put(writer, errors, &out[..end]) {
             return Outcome::Failed;
         }
@@ -133,7 +131,7 @@ fn conclude<W: io::Write, E: io::Write>(
     writer: &mut W,
     errors: &mut E,
     outcome: Outcome,
-    asked: Workload,
+    asked: Option<Workload>,
     table: &mut [u16],
     scratch: &mut [u16],
     out: &mut [u8],
@@ -160,7 +158,7 @@ fn run<R: io::Read, W: io::Write, E: io::Write>(
     scratch: &mut [u16],
     buffer: &mut [u8],
 ) -> Outcome
-    requires { (table.old ≡ (begin Workload.Bad).table) × (scratch.old ≡ (begin Workload.Bad).scratch) × (both_room ≤ length buffer.old) }
+    requires { (table.old ≡ (begin None).table) × (scratch.old ≡ (begin None).scratch) × (both_room ≤ length buffer.old) }
     ensures { Runs result }
 {
     let mut line = [0; KEPT_BYTES];

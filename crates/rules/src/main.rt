@@ -46,7 +46,7 @@ fn relay<W: io::Write, E: io::Write>(
     while from < input.len() {
         let before = present;
         let fed = rule_lines::feed(before, table, scratch, line, &input[from..], out);
-        let next = fed.rules;
+        let next = fed.state;
         let end = fed.written;
         present = next;
         from += fed.taken;
@@ -143,15 +143,16 @@ fn conclude<W: io::Write, E: io::Write>(
     match outcome {
         Outcome::More => Outcome::More,
         Outcome::Failed => Outcome::Failed,
-        Outcome::End => {
-            let finished = rule_lines::finish(rules, table, scratch, line, out);
-            let end = finished.written;
-            if put(writer, errors, &out[..end]) {
-                Outcome::End
-            } else {
-                Outcome::Failed
+        Outcome::End => match rule_lines::finish(rules, table, scratch, line, out) {
+            Some(end) => {
+                if put(writer, errors, &out[..end]) {
+                    Outcome::End
+                } else {
+                    Outcome::Failed
+                }
             }
-        }
+            None => unreachable!(),
+        },
     }
 }
 

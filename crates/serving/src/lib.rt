@@ -1,5 +1,7 @@
-// What an output line says of an answer of the store.
+// What an output line says of an answer of the store, and requests served.
 #![tactic(auto)]
+
+pub mod requests;
 
 ghost use Rattle.std.specs.Prelude.{◌≡◌};
 ghost use Rattle.machine.specs.Answers.{row_reply, fresh_reply, step_reply};
@@ -34,4 +36,12 @@ pub fn step_verdict(answer: StepAnswer) -> Verdict
         StepAnswer::Applied { kind: _, freed } => Verdict::Ok(freed),
         StepAnswer::Refused(refusal) => Verdict::No(refusal.number()),
     }
+}
+
+// After a part of the input: what is carried on, how much was taken, and how much was written.
+#[derive(Clone, Copy)]
+pub struct Fed<S> {
+    pub state: S,
+    pub taken: usize,
+    pub written: usize,
 }

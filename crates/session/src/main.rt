@@ -43,7 +43,7 @@ fn relay<W: io::Write, E: io::Write>(
     while from < input.len() {
         let before = present;
         let fed = session_lines::feed(before, table, scratch, &input[from..], out);
-        let next = fed.session;
+        let next = fed.state;
         let end = fed.written;
         present = next;
         from += fed.taken;
@@ -126,15 +126,16 @@ fn conclude<W: io::Write, E: io::Write>(
     match outcome {
         Outcome::More => Outcome::More,
         Outcome::Failed => Outcome::Failed,
-        Outcome::End => {
-            let finished = session_lines::finish(session, table, scratch, out);
-            let end = finished.written;
-            if put(writer, errors, &out[..end]) {
-                Outcome::End
-            } else {
-                Outcome::Failed
+        Outcome::End => match session_lines::finish(session, table, scratch, out) {
+            Some(end) => {
+                if put(writer, errors, &out[..end]) {
+                    Outcome::End
+                } else {
+                    Outcome::Failed
+                }
             }
-        }
+            None => unreachable!(),
+        },
     }
 }
 

@@ -1,5 +1,5 @@
 -- What the parser's tests tell of the workload, and why an input's first bytes are enough.
-use Rattle.std.proofs.Common.{◌≡◌, ℕ, suc, ◌+◌, ◌-◌, ◌<◌, ◌≤◌, Bool, true, false, cond, eqb, List, [], ◌∷◌, length, take, drop, sym, refl, ap, ◌∙◌, arith, length-drop, drop_of_length-le, take_all, eqb-true}
+use Rattle.std.proofs.Common.{Option, None, ◌≡◌, ℕ, suc, ◌+◌, ◌-◌, ◌<◌, ◌≤◌, Bool, true, false, cond, eqb, List, [], ◌∷◌, length, take, drop, sym, refl, ap, ◌∙◌, arith, length-drop, drop_of_length-le, take_all, eqb-true}
 use borrow.Author.Tests.{eqb-false}
 use Rattle.base_ten.specs.declared.Number.{Number}
 use Rattle.base_ten.specs.Bytes.{line_feed, space, before, on_first, split, lines_of, words_of}
@@ -14,29 +14,29 @@ use Rattle.traffic.specs.Workload.{most_seed, most_count, if_all, by_words, by_l
 
 -- the words of a line, by the place of the next space
 module _ (s : List ℕ) (n : ℕ) (e : n ≡ before space s) where
-  pub one_word : n ≡ length s → Workload.Bad ≡ by_words (words_of s)
+  pub one_word : n ≡ length s → None ≡ by_words (words_of s)
   unfolding by_words
   one_word h = rw (words_one s n e h)
 
-  pub two_words : (a : List ℕ) → n ≡ length s → Workload.Bad ≡ by_words (a ∷ words_of s)
+  pub two_words : (a : List ℕ) → n ≡ length s → None ≡ by_words (a ∷ words_of s)
   unfolding by_words
   two_words a h = rw (words_one s n e h)
 
-  pub three_words : (a b : List ℕ) {r : Workload} → n ≡ length s → r ≡ by_words (a ∷ b ∷ s ∷ []) → r ≡ by_words (a ∷ b ∷ words_of s)
+  pub three_words : (a b : List ℕ) {r : Option Workload} → n ≡ length s → r ≡ by_words (a ∷ b ∷ s ∷ []) → r ≡ by_words (a ∷ b ∷ words_of s)
   three_words a b h er = rw (words_one s n e h) er
 
   module _ (l : n ≤ length s) (h : n ≡ length s → ⊥) where
-    pub four_words : (a b : List ℕ) → Workload.Bad ≡ by_words (a ∷ b ∷ words_of s)
+    pub four_words : (a b : List ℕ) → None ≡ by_words (a ∷ b ∷ words_of s)
     unfolding by_words
     four_words a b = let w = some_word (drop (n + 1) s) in rw (words_more s n e l h, w.2)
 
     parted : words_of s ≡ take n s ∷ words_of (take (length s - (n + 1)) (drop (n + 1) s))
     parted = rw (last_part s (n + 1)) (words_more s n e l h)
 
-    pub more_words : {r : Workload} → r ≡ by_words (take n s ∷ words_of (take (length s - (n + 1)) (drop (n + 1) s))) → r ≡ by_words (words_of s)
+    pub more_words : {r : Option Workload} → r ≡ by_words (take n s ∷ words_of (take (length s - (n + 1)) (drop (n + 1) s))) → r ≡ by_words (words_of s)
     more_words er = rw parted er
 
-    pub more_words_after : (a : List ℕ) {r : Workload} → r ≡ by_words (a ∷ take n s ∷ words_of (take (length s - (n + 1)) (drop (n + 1) s)))
+    pub more_words_after : (a : List ℕ) {r : Option Workload} → r ≡ by_words (a ∷ take n s ∷ words_of (take (length s - (n + 1)) (drop (n + 1) s)))
         → r ≡ by_words (a ∷ words_of s)
     more_words_after a er = rw parted er
 
@@ -67,7 +67,7 @@ some_line (x ∷ xs) h = go (eqb x line_feed) (lines_of xs)
 line_ended : (s : List ℕ) (n : ℕ) → n ≡ before line_feed s → n < length s → lines_of s ≡ take n s ∷ lines_of (drop (suc n) s)
 line_ended s n e h = rw e (split_at line_feed [] s (omega arith))
 
-pub more_lines : (s : List ℕ) (n : ℕ) → n ≡ before line_feed s → n ≤ length s → 1 < length s - n → Workload.Bad ≡ workload_of s
+pub more_lines : (s : List ℕ) (n : ℕ) → n ≡ before line_feed s → n ≤ length s → 1 < length s - n → None ≡ workload_of s
 unfolding workload_of by_lines
 more_lines s n e l h =
     let rest = some_line (drop (suc n) s) (omega (arith, length-drop (suc n) s)) in
@@ -85,7 +85,7 @@ fed_line s n e h =
     let rest : drop (suc n) s ≡ [] = drop_of_length-le s {i = suc n} (omega arith) in
     rw (line_ended s n e (omega arith), rest)
 
-pub one_line : (s : List ℕ) (n : ℕ) {r : Workload} → n ≡ before line_feed s → n ≤ length s → length s - n ≤ 1 → r ≡ by_words (words_of (take n s))
+pub one_line : (s : List ℕ) (n : ℕ) {r : Option Workload} → n ≡ before line_feed s → n ≤ length s → length s - n ≤ 1 → r ≡ by_words (words_of (take n s))
     → r ≡ workload_of s
 one_line s n {r = r} e l h er = go (eqb n (length s)) refl
   where

@@ -16,4 +16,4 @@ pub returns : goal.returns
 returns g c =
     let l = c.loop-reads in
     let none : l.reads ≡ 0 = omega arith in
-    reading_all (rw none at l.invariant.1)
+    reading_all (search rules) (rw none at l.invariant.1)
