@@ -54,6 +54,7 @@ pub fn feed(
     let mut taken = 0;
     let mut written = 0;
     let mut next = next_line_feed(input, taken);
+    // Kept: a `for` over lines is no plainer, since where the loop stops is told as the bytes taken.
     while next < input.len() {
         if out.len() - written < ROOM {
             return Fed {

@@ -38,6 +38,7 @@ pub fn serve_lines(
         result.state result.taken result.written table.new scratch.new out.new }
 {
     let mut state = session;
+    let mut queue = session.queue;
     let mut count = Count::new(state.lines);
     let mut taken = 0;
     let mut written = 0;
@@ -45,7 +46,7 @@ pub fn serve_lines(
     while feed < input.len() {
         if out.len() - written < ROOM {
             return Fed {
-                state,
+                state: Session { queue, ..state },
                 taken,
                 written,
             };
@@ -53,7 +54,7 @@ pub fn serve_lines(
         let asked = request(&state.line, state.held, &input[taken..feed]);
         state.held = 0;
         state.lines = count.next();
-        let verdict = serve_line(table, &mut state.queue, scratch, asked);
+        let verdict = serve_line(table, &mut queue, scratch, asked);
         written = put_line(out, written, &count, verdict);
         taken = feed + 1;
         feed = next_line_feed(input, taken);
@@ -61,7 +62,7 @@ pub fn serve_lines(
     let held = state.held;
     state.held = keep(&mut state.line, held, &input[taken..]);
     Fed {
-        state,
+        state: Session { queue, ..state },
         taken: input.len(),
         written,
     }

@@ -30,6 +30,7 @@ pub struct Drawn {
 }
 
 // The product, modulo 2^32.
+// Kept: document 01 of the project names an own wrapping product beside the supplied wrapping sum.
 pub fn wrapping_mul_u32(a: u32, b: u32) -> u32
     ensures wraps { result ≡ (a * b) % 2 ^ 32 }
 {
