@@ -7,7 +7,7 @@ ghost use Rattle.rule_lines.specs.Stores.{PutsText, Answers, AnswersHeld};
 use crate::hold::{CELLS, clean};
 use base_ten::put::{put_counted, put_word};
 use line_text::kept::keep;
-use machine::{Queue, RowAnswer};
+use machine::Queue;
 
 // The most bytes of an answer: a text has 5 bytes and 10 for each pair at most.
 const ANSWER_BYTES: usize = 5 + 10 * CELLS as usize;
@@ -50,8 +50,8 @@ fn answer(
     let reply = store::read_text(table, *queue, line);
     *queue = reply.queue;
     match reply.answer {
-        RowAnswer::Refused(refusal) => put_counted(out, at, b"NO ", refusal.number()),
-        RowAnswer::Done(word) => {
+        Err(refusal) => put_counted(out, at, b"NO ", refusal.number()),
+        Ok(word) => {
             let end = put_text(table, queue, word, out, at);
             clean(table, queue, scratch, word);
             end
