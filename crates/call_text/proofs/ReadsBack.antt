@@ -3,7 +3,7 @@ use mathlib.Core.Path.{◌≡◌, refl, sym, ◌∙◌}
 use mathlib.Core.List.{List, [], ◌∷◌, ◌++◌}
 use Prim.Native.Nat.{ℕ, ◌≤◌}
 use native.Mathlib.Omega.{arith}
-use Rattle.std.specs.Prelude.{Option, Some, None}
+use Rattle.std.specs.Prelude.{Some}
 use Rattle.base_ten.specs.Bytes.{ascii, space, split, words_of}
 use Rattle.base_ten.specs.Numbers.{number_of}
 use Rattle.base_ten.specs.Decimal.{most_digits, decimal}

@@ -6,7 +6,6 @@ use Rattle.base_ten.specs.Numbers.{number_from, zero_alone, number_of}
 use Rattle.base_ten.proofs.NumberLaws.{grown, grown_larger, grown_longer, number_high}
 use Rattle.line_text.specs.Requests.{most_bytes}
 use Rattle.line_text.specs.Kept.{kept_bytes}
-use Rattle.traffic.specs.declared.Workload.{Workload}
 use Rattle.traffic.specs.Workload.{most_seed, most_count, if_all, by_words, by_lines, workload_of}
 
 -- more than ten digits without leading zeros are a number of 10,000,000,000 or more

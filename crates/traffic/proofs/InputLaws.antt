@@ -1,12 +1,11 @@
 -- What the parser's tests tell of the workload, and why an input's first bytes are enough.
-use Rattle.std.proofs.Common.{◌≡◌, ℕ, suc, ◌+◌, ◌-◌, ◌<◌, ◌≤◌, Bool, true, false, cond, eqb, List, [], ◌∷◌, Option, Some, None, length, sym, refl, ap, ◌∙◌, arith}
+use Rattle.std.proofs.Common.{◌≡◌, ℕ, suc, ◌<◌, ◌≤◌, Bool, true, false, cond, eqb, List, [], ◌∷◌, Option, None, length, sym, refl, ap, ◌∙◌, arith}
 use Rattle.base_ten.specs.Bytes.{line_feed, space, before, SplitsAt, on_first, split, lines_of, words_of}
 use Rattle.base_ten.specs.Lines.{last_line, onto}
 use Rattle.base_ten.specs.Numbers.{number_of}
 use Rattle.base_ten.proofs.WordLaws.{append_none, split_all, split_at}
 use Rattle.base_ten.proofs.LineLaws.{onto_none, lines_joined}
 use Rattle.line_text.proofs.RequestLaws.{some_word}
-use Rattle.traffic.specs.declared.Workload.{Workload}
 use Rattle.traffic.specs.Workload.{most_seed, most_count, if_all, by_words, by_lines, workload_of}
 
 -- the words of what has no space
