@@ -1,7 +1,7 @@
-use native.Mathlib.Omega.{arith}
+use Rattle.std.proofs.Common.{arith}
 use Rattle.notation.specs.Grammar.{opening, closing, dot, number}
 use Rattle.scanner.proofs.ScanLaws.{blank_read, token_read, foreign_read, number_read, taken_from}
-use Rattle.scanner.proofs.lists.take_token.Goals as goal
+use Rattle.scanner.proofs.lists.Scan.take_token.Goals as goal
 
 pub returns-in-Blank : goal.returns-in-Blank
 returns-in-Blank c =
@@ -37,7 +37,7 @@ returns-in-Number c =
     let asked = c.requires in
     let same = rw c.in-Number.is at read.marks in
     let x = token_read _ _ _ _ asked.0 read.further read.inside (number _) same in
-    taken_from _ _ c.deliver.result read.further (c.deliver.ensures _ _ _ (number_read _ _ _ _ _ c.larger.ensures x))
+    taken_from _ _ c.deliver.result read.further (c.deliver.ensures _ _ _ (number_read _ _ _ _ _ c.max-largest.ensures x))
 
 pub returns-in-Foreign : goal.returns-in-Foreign
 returns-in-Foreign c =
