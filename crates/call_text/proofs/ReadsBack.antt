@@ -3,7 +3,7 @@ use mathlib.Core.Path.{◌≡◌, refl, sym, ◌∙◌}
 use mathlib.Core.List.{List, [], ◌∷◌, ◌++◌}
 use Prim.Native.Nat.{ℕ, ◌≤◌}
 use native.Mathlib.Omega.{arith}
-use Rattle.std.specs.Prelude.{Option, Some, None}
+use Rattle.std.specs.Prelude.{Some}
 use Rattle.base_ten.specs.Bytes.{ascii, space, split, words_of}
 use Rattle.base_ten.specs.Numbers.{number_of}
 use Rattle.base_ten.specs.Decimal.{most_digits, decimal}
@@ -34,7 +34,7 @@ reads_two k x y h g =
     rw (split_word space ([] ∷ []) (decimal x) (decimal y) (digits_free space most_digits x (omega arith)), decimal_alone y, operand_read x h, operand_read y g)
 
 -- keyword by keyword
-row_back : (call : RowCall) → RowWords call → by_words (words_of (row_text call)) ≡ Request.Row call
+row_back : (call : RowCall) → RowWords call → by_words (words_of (row_text call)) ≡ Some (Request.Row call)
 unfolding row_text split with_one with_two
 row_back (RowCall.Car x) h = reads_one (ascii "car") x h
 row_back (RowCall.Cdr x) h = reads_one (ascii "cdr") x h
@@ -44,12 +44,11 @@ row_back (RowCall.SetRight x y) h = reads_two (ascii "setr") x y h.0 h.1
 row_back (RowCall.Up x n) h = reads_two (ascii "up") x n h.0 h.1
 row_back (RowCall.Down x n) h = reads_two (ascii "down") x n h.0 h.1
 
-words_back : (request : Request) → Words request → by_words (words_of (call_text request)) ≡ request
+words_back : (request : Request) → Words request → by_words (words_of (call_text request)) ≡ Some request
 unfolding call_text split with_none with_one by_words
 words_back (Request.Fresh c) h = reads_one (ascii "fresh") c h
 words_back (Request.Row call) h = row_back call h
 words_back Request.Step h = refl
-words_back Request.Bad h = refl
 
 pub reads_back : ReadsBack
 reads_back request h = sym (line_short (call_text request) (omega (arith, call_length request))) ∙ words_back request h

@@ -1,5 +1,5 @@
 -- What each test of the parser tells of the request.
-use Rattle.std.proofs.Common.{◌≡◌, ◌==◌, ◌&&◌, ap, suc, ◌+◌, get_or, drop, drop_of_length-le, eq-eqb, ne_eqb, ℕ, ◌<◌, ◌≤◌, Bool, true, false, cond, eqb, List, [], ◌∷◌, Option, length, refl, le-leb}
+use Rattle.std.proofs.Common.{◌≡◌, ◌==◌, ◌&&◌, ap, suc, ◌+◌, get_or, drop, drop_of_length-le, eq-eqb, ne_eqb, ℕ, ◌<◌, ◌≤◌, Bool, true, false, cond, eqb, List, [], ◌∷◌, Option, Some, None, length, refl, le-leb}
 use borrow.Author.Tests.{lt-leb}
 use Rattle.std.specs.Str.{bytes_eq}
 use Rattle.std.proofs.lemmas.Slice.Eq.{bytes_eq-Decides}
@@ -44,11 +44,11 @@ some_word (x ∷ xs) = go (eqb x space) (some_word xs)
     go false r = (x ∷ r.0, r.1, rw r.2)
 
 -- with a space behind a second operand
-pub too_many_lem : (k a : List ℕ) {s l r : List ℕ} → SplitsAt space s l r → Request.Bad ≡ by_words (k ∷ a ∷ words_of s)
+pub too_many_lem : (k a : List ℕ) {s l r : List ℕ} → SplitsAt space s l r → None ≡ by_words (k ∷ a ∷ words_of s)
 unfolding by_words
 too_many_lem k a {r = r} p = let w = some_word r in rw (split_at ([] ∷ []) p, w.2)
 
-pub line_long : (s : List ℕ) → most_bytes < length s → Request.Bad ≡ request_of s
+pub line_long : (s : List ℕ) → most_bytes < length s → None ≡ request_of s
 unfolding request_of
 line_long s h = rw (lt-leb (length s) most_bytes h)
 
@@ -66,11 +66,11 @@ unfolding by_words
 both_words k u s ea eb h = rw (split_all space s h, ea, eb)
 
 -- the one call that is a word alone
-pub alone_step : (s : List ℕ) → bytes_eq s (ascii "step") ≡ true → Request.Step ≡ request_of s
+pub alone_step : (s : List ℕ) → bytes_eq s (ascii "step") ≡ true → Some Request.Step ≡ request_of s
 unfolding split with_none by_words request_of
 alone_step s h = rw ((bytes_eq-Decides s (ascii "step")).0 h)
 
-pub alone_bad : (s : List ℕ) → before space s ≡ length s → length s ≤ most_bytes → bytes_eq s (ascii "step") ≡ false → Request.Bad ≡ request_of s
+pub alone_bad : (s : List ℕ) → before space s ≡ length s → length s ≤ most_bytes → bytes_eq s (ascii "step") ≡ false → None ≡ request_of s
 unfolding with_none by_words
 alone_bad s h l other = rw (← line_short s l, split_all space s h, other)
 

@@ -31,36 +31,36 @@ fn same(a: &[u8], b: &[u8]) -> bool
 }
 
 #[tactic(auto, unfolding(crate::specs::Requests::with_one))]
-fn with_one(word: &[u8], x: u16) -> Request
+fn with_one(word: &[u8], x: u16) -> Option<Request>
     ensures { result ≡ with_one word.now x }
 {
     if same(word, b"fresh") {
-        Request::Fresh(x)
+        Some(Request::Fresh(x))
     } else if same(word, b"car") {
-        Request::Row(RowCall::Car(x))
+        Some(Request::Row(RowCall::Car(x)))
     } else if same(word, b"cdr") {
-        Request::Row(RowCall::Cdr(x))
+        Some(Request::Row(RowCall::Cdr(x)))
     } else {
-        Request::Bad
+        None
     }
 }
 
 #[tactic(auto, unfolding(crate::specs::Requests::with_two))]
-fn with_two(word: &[u8], x: u16, y: u16) -> Request
+fn with_two(word: &[u8], x: u16, y: u16) -> Option<Request>
     ensures { result ≡ with_two word.now x y }
 {
     if same(word, b"cons") {
-        Request::Row(RowCall::Cons(x, y))
+        Some(Request::Row(RowCall::Cons(x, y)))
     } else if same(word, b"setl") {
-        Request::Row(RowCall::SetLeft(x, y))
+        Some(Request::Row(RowCall::SetLeft(x, y)))
     } else if same(word, b"setr") {
-        Request::Row(RowCall::SetRight(x, y))
+        Some(Request::Row(RowCall::SetRight(x, y)))
     } else if same(word, b"up") {
-        Request::Row(RowCall::Up(x, y))
+        Some(Request::Row(RowCall::Up(x, y)))
     } else if same(word, b"down") {
-        Request::Row(RowCall::Down(x, y))
+        Some(Request::Row(RowCall::Down(x, y)))
     } else {
-        Request::Bad
+        None
     }
 }
 
@@ -71,36 +71,30 @@ fn operand(word: &[u8]) -> Option<u16>
     Some(x as u16)
 }
 
-fn if_one(word: &[u8], a: Option<u16>) -> Request
+fn if_one(word: &[u8], a: Option<u16>) -> Option<Request>
     ensures { result ≡ if_one word.now a }
 {
-    match a {
-        Some(x) => with_one(word, x),
-        None => Request::Bad,
-    }
+    with_one(word, a?)
 }
 
-fn if_both(word: &[u8], a: Option<u16>, b: Option<u16>) -> Request
+fn if_both(word: &[u8], a: Option<u16>, b: Option<u16>) -> Option<Request>
     ensures { result ≡ if_both word.now a b }
 {
-    match (a, b) {
-        (Some(x), Some(y)) => with_two(word, x, y),
-        _ => Request::Bad,
-    }
+    with_two(word, a?, b?)
 }
 
 // After the keyword, an operand's word and a space.
-fn second_operand(word: &[u8], first: &[u8], rest: &[u8]) -> Request
+fn second_operand(word: &[u8], first: &[u8], rest: &[u8]) -> Option<Request>
     ensures { result ≡ by_words (word.now ∷ first.now ∷ words_of rest.now) }
 {
     match split_once(rest, b' ') {
         None => if_both(word, operand(first), operand(rest)),
-        Some(_) => Request::Bad,
+        Some(_) => None,
     }
 }
 
 // After the keyword and a space.
-fn operands(word: &[u8], rest: &[u8]) -> Request
+fn operands(word: &[u8], rest: &[u8]) -> Option<Request>
     ensures { result ≡ by_words (word.now ∷ words_of rest.now) }
 {
     match split_once(rest, b' ') {
@@ -110,17 +104,17 @@ fn operands(word: &[u8], rest: &[u8]) -> Request
 }
 
 // The one call without an operand is told before a space is looked for.
-pub fn parse(line: &[u8]) -> Request
+pub fn parse(line: &[u8]) -> Option<Request>
     ensures { result ≡ request_of line.now }
 {
     if MOST_BYTES < line.len() {
-        return Request::Bad;
+        return None;
     }
     if same(line, b"step") {
-        return Request::Step;
+        return Some(Request::Step);
     }
     match split_once(line, b' ') {
-        None => Request::Bad,
+        None => None,
         Some((word, rest)) => operands(word, rest),
     }
 }

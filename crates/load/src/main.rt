@@ -4,7 +4,7 @@
 #![tactic(auto)]
 
 ghost use Rattle.std.specs.Prelude.{◌≡◌, ℕ, true, ◌+◌, ◌-◌, ◌≤◌, ◌<◌, length};
-ghost use Rattle.load_lines.specs.Progress.{is_more, both_room};
+ghost use Rattle.load_lines.specs.Progress.{calls_of, is_more, both_room};
 ghost use Rattle.load_lines.specs.Whole.{begin};
 ghost use Rattle.load.specs.Threading.{state, Gathers, gathers_none, gathers_both, Sends, sends_both, Runs};
 
@@ -50,7 +50,7 @@ struct Sending {
 
 impl Sending {
     // It begins with the table and the scratch of the theorem on whole loads.
-    fn start(asked: Workload) -> Sending
+    fn start(asked: Option<Workload>) -> Sending
         ensures { state result ≡ begin asked }
     {
         Sending {
@@ -66,7 +66,7 @@ impl Source for Sending {
 
     ghost sends = { λ s y more _ s'. Sends s y more s' };
 
-    ghost calls_left = { λ s. s.load.calls + 1 - s.load.done };
+    ghost calls_left = { λ s. calls_of s.load.asked + 1 - s.load.done };
 
     ghost send_room = { both_room };
 
@@ -77,7 +77,7 @@ impl Source for Sending {
         self.load = written.load;
         Sent {
             written: written.written,
-            more: written.more,
+            more: self.load.is_more(),
         }
     }
 }

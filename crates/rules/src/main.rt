@@ -56,7 +56,7 @@ impl Feed for Answering {
             input,
             out,
         );
-        self.rules = fed.rules;
+        self.rules = fed.state;
         Fed {
             taken: fed.taken,
             written: fed.written,
@@ -84,9 +84,12 @@ impl Source for Answering {
             &mut self.line,
             out,
         );
-        Sent {
-            written: finished.written,
-            more: finished.more,
+        match finished {
+            Some(written) => Sent {
+                written,
+                more: false,
+            },
+            None => unreachable!(),
         }
     }
 }

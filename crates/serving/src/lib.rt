@@ -1,5 +1,7 @@
-// What an output line says of an answer of the store.
+// What an output line says of an answer of the store, and requests served.
 #![tactic(auto)]
+
+pub mod requests;
 
 ghost use Rattle.std.specs.Prelude.{◌≡◌};
 ghost use Rattle.machine.specs.Calls.{refused};
@@ -42,4 +44,12 @@ pub fn step_verdict(answer: StepAnswer) -> Verdict
         Ok(Step::Applied { kind: _, freed }) => Verdict::Ok(freed),
         Err(refusal) => refused(refusal),
     }
+}
+
+// After a part of the input: what is carried on, how much was taken, and how much was written.
+#[derive(Clone, Copy)]
+pub struct Fed<S> {
+    pub state: S,
+    pub taken: usize,
+    pub written: usize,
 }

@@ -45,7 +45,7 @@ impl Feed for Serving {
 
     fn feed(&mut self, input: &[u8], out: &mut [u8]) -> Fed {
         let fed = session_lines::feed(self.session, &mut self.table, &mut self.scratch, input, out);
-        self.session = fed.session;
+        self.session = fed.state;
         Fed {
             taken: fed.taken,
             written: fed.written,
@@ -66,10 +66,12 @@ impl Source for Serving {
     ghost sends_both = { λ s s' s'' x y out out' more a b. finished_once a };
 
     fn next(&mut self, out: &mut [u8]) -> Sent {
-        let finished = session_lines::finish(self.session, &mut self.table, &mut self.scratch, out);
-        Sent {
-            written: finished.written,
-            more: finished.more,
+        match session_lines::finish(self.session, &mut self.table, &mut self.scratch, out) {
+            Some(written) => Sent {
+                written,
+                more: false,
+            },
+            None => unreachable!(),
         }
     }
 }

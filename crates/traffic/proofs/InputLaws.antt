@@ -1,21 +1,20 @@
 -- What the parser's tests tell of the workload, and why an input's first bytes are enough.
-use Rattle.std.proofs.Common.{◌≡◌, ℕ, suc, ◌+◌, ◌-◌, ◌<◌, ◌≤◌, Bool, true, false, cond, eqb, List, [], ◌∷◌, Option, Some, None, length, sym, refl, ap, ◌∙◌, arith}
+use Rattle.std.proofs.Common.{◌≡◌, ℕ, suc, ◌<◌, ◌≤◌, Bool, true, false, cond, eqb, List, [], ◌∷◌, Option, None, length, sym, refl, ap, ◌∙◌, arith}
 use Rattle.base_ten.specs.Bytes.{line_feed, space, before, SplitsAt, on_first, split, lines_of, words_of}
 use Rattle.base_ten.specs.Lines.{last_line, onto}
 use Rattle.base_ten.specs.Numbers.{number_of}
 use Rattle.base_ten.proofs.WordLaws.{append_none, split_all, split_at}
 use Rattle.base_ten.proofs.LineLaws.{onto_none, lines_joined}
 use Rattle.line_text.proofs.RequestLaws.{some_word}
-use Rattle.traffic.specs.declared.Workload.{Workload}
 use Rattle.traffic.specs.Workload.{most_seed, most_count, if_all, by_words, by_lines, workload_of}
 
 -- the words of what has no space
 module _ (s : List ℕ) (h : before space s ≡ length s) where
-  pub one_word : Workload.Bad ≡ by_words (words_of s)
+  pub one_word : None ≡ by_words (words_of s)
   unfolding by_words
   one_word = rw (split_all space s h)
 
-  pub two_words : (a : List ℕ) → Workload.Bad ≡ by_words (a ∷ words_of s)
+  pub two_words : (a : List ℕ) → None ≡ by_words (a ∷ words_of s)
   unfolding by_words
   two_words a = rw (split_all space s h)
 
@@ -24,7 +23,7 @@ module _ (s : List ℕ) (h : before space s ≡ length s) where
 
 -- and of what has one
 module _ {s l r : List ℕ} (p : SplitsAt space s l r) where
-  pub four_words : (a b : List ℕ) → Workload.Bad ≡ by_words (a ∷ b ∷ words_of s)
+  pub four_words : (a b : List ℕ) → None ≡ by_words (a ∷ b ∷ words_of s)
   unfolding by_words
   four_words a b = let w = some_word r in rw (split_at ([] ∷ []) p, w.2)
 
@@ -59,7 +58,7 @@ some_line (x ∷ xs) h = go (eqb x line_feed) (lines_of xs)
     go false (p ∷ ps) = (x ∷ p, ps, refl)
 
 -- something follows the first line feed
-pub more_lines : {s l r : List ℕ} → SplitsAt line_feed s l r → 0 < length r → Workload.Bad ≡ workload_of s
+pub more_lines : {s l r : List ℕ} → SplitsAt line_feed s l r → 0 < length r → None ≡ workload_of s
 unfolding workload_of by_lines
 more_lines {r = r} p h = let w = some_line r h in rw (split_at [] p, w.2)
 

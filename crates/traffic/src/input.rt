@@ -14,56 +14,53 @@ const MOST_SEED: u32 = u32::MAX;
 const MOST_COUNT: u32 = u16::MAX as u32;
 
 #[tactic(auto, unfolding(crate::specs::Workload::by_words))]
-fn run(seed: &[u8], cells: &[u8], calls: &[u8]) -> Workload
+fn run(seed: &[u8], cells: &[u8], calls: &[u8]) -> Option<Workload>
     ensures { result ≡ by_words (seed.now ∷ cells.now ∷ calls.now ∷ []) }
 {
-    let first = number(seed, MOST_SEED);
-    let second = number(cells, MOST_COUNT);
-    let third = number(calls, MOST_COUNT);
-    match (first, second, third) {
-        (Some(s), Some(c), Some(n)) => Workload::Run(s, c as u16, n as u16),
-        _ => Workload::Bad,
-    }
+    let seed = number(seed, MOST_SEED)?;
+    let cells = number(cells, MOST_COUNT)? as u16;
+    let calls = number(calls, MOST_COUNT)? as u16;
+    Some(Workload { seed, cells, calls })
 }
 
 // After two words and their spaces.
-fn third_word(seed: &[u8], cells: &[u8], rest: &[u8]) -> Workload
+fn third_word(seed: &[u8], cells: &[u8], rest: &[u8]) -> Option<Workload>
     ensures { result ≡ by_words (seed.now ∷ cells.now ∷ words_of rest.now) }
 {
     match split_once(rest, b' ') {
         None => run(seed, cells, rest),
-        Some(_) => Workload::Bad,
+        Some(_) => None,
     }
 }
 
 // After a word and its space.
-fn second_word(seed: &[u8], rest: &[u8]) -> Workload
+fn second_word(seed: &[u8], rest: &[u8]) -> Option<Workload>
     ensures { result ≡ by_words (seed.now ∷ words_of rest.now) }
 {
     match split_once(rest, b' ') {
-        None => Workload::Bad,
+        None => None,
         Some((cells, others)) => third_word(seed, cells, others),
     }
 }
 
-fn first_word(line: &[u8]) -> Workload
+fn first_word(line: &[u8]) -> Option<Workload>
     ensures { result ≡ by_words (words_of line.now) }
 {
     match split_once(line, b' ') {
-        None => Workload::Bad,
+        None => None,
         Some((seed, rest)) => second_word(seed, rest),
     }
 }
 
 // Nothing follows the first line feed.
-pub fn workload(input: &[u8]) -> Workload
+pub fn workload(input: &[u8]) -> Option<Workload>
     ensures { result ≡ workload_of input.now }
 {
     let Some((line, rest)) = split_once(input, b'\n') else {
         return first_word(input);
     };
     if 0 < rest.len() {
-        return Workload::Bad;
+        return None;
     }
     first_word(line)
 }

@@ -9,8 +9,7 @@ returns-clause-send c =
       threads = threads_one (record {
         buffer = written.new.out;
         written = written.result.written;
-        more = written.result.more;
         after = record { load = written.result.load; table = written.new.table; scratch = written.new.scratch };
       }) written.ensures;
-      goes = written.ensures.going;
+      goes = c.is_more.ensures;
     }

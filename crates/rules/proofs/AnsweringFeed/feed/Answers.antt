@@ -11,5 +11,5 @@ returns-clause-feeds c =
       taken = fed.result.taken;
       buffer = fed.new.out;
       written = fed.result.written;
-      after = state fed.result.rules fed.new.table fed.new.scratch fed.new.line;
+      after = state fed.result.state fed.new.table fed.new.scratch fed.new.line;
     }) fed.ensures

@@ -10,5 +10,5 @@ returns-clause-feeds c =
       taken = fed.result.taken;
       buffer = fed.new.out;
       written = fed.result.written;
-      after = record { session = fed.result.session; table = fed.new.table; scratch = fed.new.scratch };
+      after = record { session = fed.result.state; table = fed.new.table; scratch = fed.new.scratch };
     }) fed.ensures
