@@ -1,11 +1,13 @@
 -- The five rules in their order, and the machine's audit of any store.
+use Rattle.std.specs.Prelude.{Ok, Err}
+use Rattle.machine.specs.declared.Finding.{Finding}
 use mathlib.Core.Path.{◌≡◌, refl, sym, ap, ◌∙◌}
 use mathlib.Core.Bool.{true, false, ◌&&◌}
 use mathlib.Core.List.{List}
 use Prim.Native.Nat.{ℕ, zero, suc}
 use native.Mathlib.Omega.{arith}
 use lib.ListN.{drop}
-use Rattle.machine.specs.declared.AuditAnswer.{AuditAnswer}
+use Rattle.machine.specs.Answers.{AuditAnswer}
 use Rattle.machine.specs.declared.Queue.{Queue}
 use Rattle.machine.specs.declared.Refusal.{Refusal}
 use Rattle.machine.specs.declared.Rule.{Rule}
@@ -43,29 +45,29 @@ broken_reply Rule.Reached = refl
 
 -- the lowest-numbered rule broken, by the first test that fails
 module _ (t : List ℕ) (q : Queue) (s s' : List ℕ) (past : drop (scratch_words (capacity t)) s' ≡ drop (scratch_words (capacity t)) s) where
-  judged_broken : (r : Rule) → first_no (rules t q) ≡ rule_number r → Judged t q s s' (AuditAnswer.Broken r)
+  judged_broken : (r : Rule) → first_no (rules t q) ≡ rule_number r → Judged t q s s' (Finding.Broken r)
   judged_broken r e = record { reply = sym (ap audit_reply e ∙ broken_reply r); past = past }
 
-  pub cells_broken : cells_sound t ≡ false → Judged t q s s' (AuditAnswer.Broken Rule.Cells)
+  pub cells_broken : cells_sound t ≡ false → Judged t q s s' (Finding.Broken Rule.Cells)
   cells_broken a = judged_broken Rule.Cells (unfold rules first_no in (rw a))
 
   module _ (a : cells_sound t ≡ true) where
-    pub chain_broken : chain_sound t ≡ false → Judged t q s s' (AuditAnswer.Broken Rule.FreeChain)
+    pub chain_broken : chain_sound t ≡ false → Judged t q s s' (Finding.Broken Rule.FreeChain)
     chain_broken b = judged_broken Rule.FreeChain (unfold rules first_no in (rw (a, b)))
 
     module _ (b : chain_sound t ≡ true) where
-      pub packets_broken : packets_sound t q ≡ false → Judged t q s s' (AuditAnswer.Broken Rule.Packets)
+      pub packets_broken : packets_sound t q ≡ false → Judged t q s s' (Finding.Broken Rule.Packets)
       packets_broken c = judged_broken Rule.Packets (unfold rules first_no in (rw (a, b, c)))
 
       module _ (c : packets_sound t q ≡ true) where
-        pub pointers_broken : pointers_sound t (waiting q) ≡ false → Judged t q s s' (AuditAnswer.Broken Rule.Pointers)
+        pub pointers_broken : pointers_sound t (waiting q) ≡ false → Judged t q s s' (Finding.Broken Rule.Pointers)
         pointers_broken d = judged_broken Rule.Pointers (unfold rules first_no in (rw (a, b, c, d)))
 
         module _ (d : pointers_sound t (waiting q) ≡ true) where
-          pub reached_broken : all_reached t ≡ false → Judged t q s s' (AuditAnswer.Broken Rule.Reached)
+          pub reached_broken : all_reached t ≡ false → Judged t q s s' (Finding.Broken Rule.Reached)
           reached_broken e = judged_broken Rule.Reached (unfold rules first_no in (rw (a, b, c, d, e)))
 
-          pub none_broken : all_reached t ≡ true → Judged t q s s' AuditAnswer.Sound
+          pub none_broken : all_reached t ≡ true → Judged t q s s' Finding.Sound
           none_broken e = record { reply = sym (ap audit_reply none ∙ (unfold audit_reply in refl)); past = past }
             where
               none : first_no (rules t q) ≡ 0
@@ -85,10 +87,10 @@ module _ (t : List ℕ) (q : Queue) (s : List ℕ) where
   some_no k a = first_no_append (early (store t q s) audit) (late (store t q s) audit) k (same_questions ∙ a)
 
   -- a refusal leaves the scratch
-  pub audited_refused : (r : Refusal) → refusal_number r ≡ asks → Audited t q s s (AuditAnswer.Refused r)
+  pub audited_refused : (r : Refusal) → refusal_number r ≡ asks → Audited t q s s (Err r)
   audited_refused r a = go (refusal_number r) refl
     where
-      go : (k : ℕ) → refusal_number r ≡ k → Audited t q s s (AuditAnswer.Refused r)
+      go : (k : ℕ) → refusal_number r ≡ k → Audited t q s s (Err r)
       go zero e = absurd (omega (arith, refusal_some r))
       go (suc k) e =
           let m = machine_refused (store t q s) audit k (some_no k (sym a ∙ e)) in record {
@@ -105,10 +107,10 @@ module _ (t : List ℕ) (q : Queue) (s : List ℕ) where
         ∙ (unfold late first_no in refl))
 
     -- and a verdict clears it
-    pub audited_judged : (s' : List ℕ) (r : AuditAnswer) (n : ℕ) (s'' : List ℕ) → Judged t q s s' r → n ≡ capacity t → s'' ≡ cleared (scratch_words n) s'
-        → Audited t q s s'' r
+    pub audited_judged : (s' : List ℕ) (f : Finding) (n : ℕ) (s'' : List ℕ) → Judged t q s s' f → n ≡ capacity t → s'' ≡ cleared (scratch_words n) s'
+        → Audited t q s s'' (Ok f)
     unfolding audited
-    audited_judged s' r n s'' j m k = record {
+    audited_judged s' f n s'' j m k = record {
       reply = j.reply ∙ sym (ap (λ (o : Outcome). o.reply) accepted_audit);
       after = ap (store t q) (k ∙ ap (λ (i : ℕ). cleared (scratch_words i) s') m ∙ cleared_same (scratch_words (capacity t)) s s' j.past)
           ∙ sym (ap (λ (o : Outcome). o.after) accepted_audit);

@@ -12,42 +12,37 @@ use audit_cells::fields::cells_sound;
 use audit_packets::packets_sound;
 use audit_pointers::pointers_sound;
 use live::all_reached;
-use machine::{Asked, AuditAnswer, Queue, Rule};
+use machine::{AuditAnswer, Finding, Queue, Rule};
 use marks::clear;
 
-fn judge(table: &[u16], queue: Queue, scratch: &mut [u16]) -> AuditAnswer
-    requires { Lent table.now queue scratch.old }
-    ensures { Judged table.now queue scratch.old scratch.new result }
+fn judge(table: &[u16], queue: &Queue, scratch: &mut [u16]) -> Finding
+    requires { Lent table.now queue.now scratch.old }
+    ensures { Judged table.now queue.now scratch.old scratch.new result }
 {
     if !cells_sound(table) {
-        return AuditAnswer::Broken(Rule::Cells);
+        return Finding::Broken(Rule::Cells);
     }
     if !chain_sound(table) {
-        return AuditAnswer::Broken(Rule::FreeChain);
+        return Finding::Broken(Rule::FreeChain);
     }
     if !packets_sound(table, queue, scratch) {
-        return AuditAnswer::Broken(Rule::Packets);
+        return Finding::Broken(Rule::Packets);
     }
     if !pointers_sound(table, queue, scratch) {
-        return AuditAnswer::Broken(Rule::Pointers);
+        return Finding::Broken(Rule::Pointers);
     }
     if !all_reached(table, scratch) {
-        return AuditAnswer::Broken(Rule::Reached);
+        return Finding::Broken(Rule::Reached);
     }
-    AuditAnswer::Sound
+    Finding::Sound
 }
 
 // For any table, queue and scratch. The table is only read, and the scratch's front is 0 afterwards, also where a rule is broken.
 pub fn audit_store(table: &[u16], queue: Queue, scratch: &mut [u16]) -> AuditAnswer
     ensures { Audited table.now queue scratch.old scratch.new result }
 {
-    let asked = questions::lent(table, queue.place, queue.count, scratch);
-    match asked {
-        Asked::Yes => {
-            let answer = judge(table, queue, scratch);
-            clear(scratch, cells::capacity_of(table));
-            answer
-        }
-        Asked::No(refusal) => AuditAnswer::Refused(refusal),
-    }
+    questions::lent(table, &queue, scratch)?;
+    let finding = judge(table, &queue, scratch);
+    clear(scratch, cells::capacity_of(table));
+    Ok(finding)
 }

@@ -9,29 +9,20 @@ ghost use Rattle.audit.specs.Live.{free_or_marked};
 
 use marks::{is_marked, mark};
 
+#[tactic(auto, unfolding(crate::specs::Live::free_or_marked, machine::specs::Table::is_free))]
 fn free_or_marked(table: &[u16], scratch: &[u16], index: usize) -> bool
     requires { TableShape table.now × (index < capacity table.now) × (scratch_words (suc index) ≤ length scratch.now) }
     ensures { result ≡ free_or_marked table.now scratch.now index }
 {
-    if cells::in_use(table, index) {
-        return is_marked(scratch, index);
-    }
-    true
+    !cells::in_use(table, index) || is_marked(scratch, index)
 }
 
+#[tactic(auto, unfolding(machine::specs::Table::scratch_words))]
 fn used_marked(table: &[u16], scratch: &[u16]) -> bool
     requires { TableShape table.now × (scratch_words (capacity table.now) ≤ length scratch.now) }
     ensures { result ≡ every (capacity table.now) (free_or_marked table.now scratch.now) }
 {
-    let c = cells::capacity_of(table) as usize;
-    let mut index = 0;
-    while index < c {
-        if !free_or_marked(table, scratch, index) {
-            return false;
-        }
-        index += 1;
-    }
-    true
+    (0..cells::capacity_of(table) as usize).all(|index| free_or_marked(table, scratch, index))
 }
 
 pub(crate) fn all_reached(table: &[u16], scratch: &mut [u16]) -> bool

@@ -1,7 +1,7 @@
 -- S2: a walk over free cells that ends after as many steps as there are free cells meets each of them once; and the free chain is such a walk.
 use mathlib.Core.Path.{◌≡◌, refl, sym, ap, ap₂, ◌∙◌}
 use mathlib.Core.Logic.{⊎_elim}
-use mathlib.Core.Bool.{Bool, true, false, cond, not, ◌&&◌, ◌||◌}
+use mathlib.Core.Bool.{Bool, true, false, ◌&&◌, ◌||◌}
 use mathlib.Core.List.{List, [], ◌∷◌, ◌++◌, map, append-nil}
 use Prim.Native.Nat.{ℕ, suc, pred, ◌+◌, ◌-◌, ◌≤◌, ◌<◌}
 use native.Mathlib.Numerals.{sub-one}
@@ -12,7 +12,7 @@ use borrow.Author.Tests.{eqb-true, eqb-false}
 use Rattle.machine.specs.Audit.{free_chain, laid_out, met_once, chain_sound}
 use Rattle.machine.specs.Facts.{Linked, Chain}
 use Rattle.machine.specs.Range.{every, total, matching, occurrences, every_of, last_of}
-use Rattle.machine.specs.Table.{left, right, root_count, cell_count, state, name_count, capacity, first_free, last_free, word_at, in_use, is_free}
+use Rattle.machine.specs.Table.{left, capacity, first_free, last_free, word_at, in_use, is_free}
 use Rattle.machine.specs.Words.{is_cell}
 use Rattle.machine.proofs.Chain.{linked_indices, total_occurrences, laid_wiped, chain_is}
 use Rattle.machine.proofs.Lists.{last_of_snoc}
@@ -220,34 +220,3 @@ pub laid_needed : (t : List ℕ) → free_laid_out t ≡ false → chain_sound t
 unfolding chain_sound free_laid_out free_or_used
 laid_needed t h =
     and_no_second (every_of (free_chain t) (is_cell (capacity t)) && every (capacity t) (met_once t (free_chain t)) && eqb (last_of (free_chain t)) (last_free t)) h
-
--- what the code tests
-module _ (t : List ℕ) (i : ℕ) where
-  pub laid_last : word_at t i right ≡ 0 → word_at t i root_count ≡ 0 → word_at t i cell_count ≡ 0 → word_at t i state ≡ 0 → eqb (word_at t i name_count) 0 ≡ laid_out t i
-  unfolding laid_out every
-  laid_last r n m s = rw (r, n, m, s)
-
-  pub used_passes : in_use t i ≡ true → free_or_used t i ≡ true
-  unfolding free_or_used
-  used_passes h = rw h
-
-  pub free_laid : in_use t i ≡ false → laid_out t i ≡ free_or_used t i
-  unfolding free_or_used
-  free_laid h = rw h
-
-  pub bit_most : free_bit t i ≤ 1
-  bit_most = ⊎_elim (λ e. omega (arith, bit_one t i e)) (λ e. omega (arith, bit_none t i e)) (tested (is_free t i))
-
-  pub bit_of : (b : Bool) → b ≡ in_use t i → cond b 0 1 ≡ free_bit t i
-  unfolding free_bit is_free
-  bit_of true e = rw (← e)
-  bit_of false e = rw (← e)
-
-module _ (t : List ℕ) (w : ℕ) where
-  pub no_cell_not_free : is_cell (capacity t) w ≡ false → is_free_cell t w ≡ false
-  unfolding is_free_cell
-  no_cell_not_free h = rw h
-
-  pub cell_free_lem : is_cell (capacity t) w ≡ true → not (in_use t (w - 1)) ≡ is_free_cell t w
-  unfolding is_free_cell is_free
-  cell_free_lem h = rw (h, sub-one w)

@@ -1,19 +1,11 @@
 -- Tests that fail, and a range tested one number at a time.
-use mathlib.Core.Path.{◌≡◌, refl, sym, ap₂, ◌∙◌}
-use mathlib.Core.Bool.{Bool, true, false, not, ◌&&◌}
-use Prim.Native.Nat.{ℕ, zero, suc, ◌+◌, ◌<◌}
-use native.Mathlib.Numerals.{add-one}
+use mathlib.Core.Path.{◌≡◌, refl, ap₂}
+use mathlib.Core.Bool.{Bool, true, false, ◌&&◌}
+use Prim.Native.Nat.{ℕ, zero, suc, pred, ◌+◌, ◌-◌, ◌<◌}
+use native.Mathlib.Numerals.{add-one, sub-one}
 use native.Mathlib.Omega.{arith}
-use borrow.Author.Tests.{not-true, not-false}
 use Rattle.machine.specs.Range.{every, total}
 use Rattle.machine.proofs.Range.{not_both, and_both, every_at, refuted}
-
--- a call's answer r is the test b: the code asks `!r`
-pub passed : {r b : Bool} → r ≡ b → not r ≡ false → b ≡ true
-passed {r} e h = sym e ∙ not-false r h
-
-pub failed : {r b : Bool} → r ≡ b → not r ≡ true → b ≡ false
-failed {r} e h = sym e ∙ not-true r h
 
 pub and_no_first : {a : Bool} (b : Bool) → a ≡ false → a && b ≡ false
 and_no_first b h = rw h
@@ -24,16 +16,6 @@ and_no_second false h = refl
 
 pub and_decides : {a : Bool} (b : Bool) → a ≡ true → b ≡ a && b
 and_decides b h = rw h
-
--- three tests in a row
-pub first_fails : {a : Bool} (b c : Bool) → a ≡ false → a && b && c ≡ false
-first_fails b c h = rw h
-
-pub second_fails : (a : Bool) {b : Bool} (c : Bool) → b ≡ false → a && b && c ≡ false
-second_fails a c h = and_no_first c (and_no_second a h)
-
-pub third_decides : {a b : Bool} (c : Bool) → a ≡ true → b ≡ true → c ≡ a && b && c
-third_decides c h k = rw (h, k)
 
 pub every_none : (p : ℕ → Bool) → every 0 p ≡ true
 unfolding every
@@ -51,10 +33,10 @@ unfolding every
 every_same zero p q e = refl
 every_same (suc n) p q e = ap₂ ◌&&◌ (every_same n p q (λ i l. e i (omega arith))) (e n (omega arith))
 
-pub total_none : (f : ℕ → ℕ) → 0 ≡ total 0 f
-unfolding total
-total_none f = refl
-
 pub total_more : (n : ℕ) (f : ℕ → ℕ) → total (n + 1) f ≡ total n f + f n
 unfolding total
 total_more n f = rw add-one
+
+-- a cell's index from its number, as the code and the definitions have it
+pub index_of : (w : ℕ) → w - 1 ≡ pred w
+index_of w = sub-one w

@@ -6,83 +6,48 @@ ghost use Rattle.machine.specs.Audit.{laid_out, chain_sound};
 ghost use Rattle.machine.specs.Facts.{TableShape};
 ghost use Rattle.audit_cells.specs.FreeChain.{free_or_used, free_laid_out, free_bit, free_cells, is_free_cell};
 
+#[tactic(auto, unfolding(machine::specs::Audit::laid_out, machine::specs::Range::every))]
 fn laid_out(table: &[u16], index: usize) -> bool
     requires { TableShape table.now × (index < capacity table.now) }
     ensures { result ≡ laid_out table.now index }
 {
-    if cells::field(table, index, cells::RIGHT) != 0 {
-        return false;
-    }
-    if cells::root_count(table, index).0 != 0 {
-        return false;
-    }
-    if cells::cell_count(table, index).0 != 0 {
-        return false;
-    }
-    if cells::state_word(table, index) != 0 {
-        return false;
-    }
-    cells::name_count(table, index).0 == 0
+    cells::field(table, index, cells::RIGHT) == 0
+        && cells::root_count(table, index).0 == 0
+        && cells::cell_count(table, index).0 == 0
+        && cells::state_word(table, index) == 0
+        && cells::name_count(table, index).0 == 0
 }
 
+#[tactic(auto, unfolding(crate::specs::FreeChain::free_or_used))]
 fn free_or_used(table: &[u16], index: usize) -> bool
     requires { TableShape table.now × (index < capacity table.now) }
     ensures { result ≡ free_or_used table.now index }
 {
-    if cells::in_use(table, index) {
-        return true;
-    }
-    laid_out(table, index)
+    cells::in_use(table, index) || laid_out(table, index)
 }
 
 fn free_laid_out(table: &[u16]) -> bool
     requires { TableShape table.now }
     ensures { result ≡ free_laid_out table.now }
 {
-    let c = cells::capacity_of(table) as usize;
-    let mut index = 0;
-    while index < c {
-        if !free_or_used(table, index) {
-            return false;
-        }
-        index += 1;
-    }
-    true
-}
-
-// 1 for a free cell.
-fn free_bit(table: &[u16], index: usize) -> usize
-    requires { TableShape table.now × (index < capacity table.now) }
-    ensures { result ≡ free_bit table.now index }
-{
-    if cells::in_use(table, index) {
-        return 0;
-    }
-    1
+    (0..cells::capacity_of(table) as usize).all(|index| free_or_used(table, index))
 }
 
 fn free_cells(table: &[u16]) -> usize
     requires { TableShape table.now }
     ensures { result ≡ free_cells table.now }
 {
-    let c = cells::capacity_of(table) as usize;
-    let mut free = 0;
-    let mut index = 0;
-    while index < c {
-        free += free_bit(table, index);
-        index += 1;
-    }
-    free
+    (0..cells::capacity_of(table) as usize)
+        .filter(|&index| !cells::in_use(table, index))
+        .count()
 }
 
+#[tactic(auto, using(crate::proofs::Tests::index_of), unfolding(crate::specs::FreeChain::is_free_cell, machine::specs::Table::is_free, machine::specs::Words::is_cell))]
 fn is_free_cell(table: &[u16], w: u16) -> bool
     requires { TableShape table.now }
     ensures { result ≡ is_free_cell table.now w }
 {
-    if questions::is_cell(cells::capacity_of(table), w) {
-        return !cells::in_use(table, (w - 1) as usize);
-    }
-    false
+    questions::is_cell(cells::capacity_of(table), w) && !cells::in_use(table, (w - 1) as usize)
 }
 
 fn chain_walks(table: &[u16], free: usize) -> bool
@@ -91,27 +56,20 @@ fn chain_walks(table: &[u16], free: usize) -> bool
 {
     let mut w = cells::first_free(table);
     let mut last: u16 = 0;
-    let mut steps = 0;
-    while steps < free {
+    for _ in 0..free {
         if !is_free_cell(table, w) {
             return false;
         }
         last = w;
         w = cells::field(table, (w - 1) as usize, cells::LEFT);
-        steps += 1;
     }
-    if w != 0 {
-        return false;
-    }
-    last == cells::last_free(table)
+    w == 0 && last == cells::last_free(table)
 }
 
+#[tactic(auto, using(crate::proofs::FreeChain::laid_needed))]
 pub fn chain_sound(table: &[u16]) -> bool
     requires { TableShape table.now }
     ensures { result ≡ chain_sound table.now }
 {
-    if !free_laid_out(table) {
-        return false;
-    }
-    chain_walks(table, free_cells(table))
+    free_laid_out(table) && chain_walks(table, free_cells(table))
 }

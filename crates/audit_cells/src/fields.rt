@@ -5,46 +5,36 @@ ghost use Rattle.machine.specs.Audit.{field_sound, cells_sound};
 ghost use Rattle.machine.specs.Facts.{TableShape};
 ghost use Rattle.audit_cells.specs.Cells.{counts_sound, field_holds};
 
-use machine::{CellCount, FIRST_ATOM, RootCount};
+use machine::{CellCount, FIRST_ATOM, Limited, RootCount};
 
 // A word is nil, an atom or a cell in use.
+#[tactic(auto, using(crate::proofs::Tests::index_of), unfolding(machine::specs::Audit::field_sound, machine::specs::Words::is_nil, machine::specs::Words::is_atom, machine::specs::Words::is_cell))]
 pub fn field_sound(table: &[u16], w: u16) -> bool
     requires { TableShape table.now }
     ensures { result ≡ field_sound table.now w }
 {
-    if w == 0 {
-        return true;
-    }
-    if FIRST_ATOM <= w {
-        return true;
-    }
-    if cells::capacity_of(table) < w {
-        return false;
-    }
-    cells::in_use(table, (w - 1) as usize)
+    w == 0
+        || FIRST_ATOM <= w
+        || (questions::is_cell(cells::capacity_of(table), w)
+            && cells::in_use(table, (w - 1) as usize))
 }
 
+#[tactic(auto, unfolding(crate::specs::Cells::counts_sound))]
 fn counts_sound(table: &[u16], index: usize) -> bool
     requires { TableShape table.now × (index < capacity table.now) }
     ensures { result ≡ counts_sound table.now index }
 {
-    if cells::USED < cells::state_word(table, index) {
-        return false;
-    }
-    if RootCount::CEILING < cells::root_count(table, index).0 {
-        return false;
-    }
-    cells::cell_count(table, index).0 <= CellCount::CEILING
+    cells::state_word(table, index) <= cells::USED
+        && cells::root_count(table, index).0 <= RootCount::CEILING
+        && cells::cell_count(table, index).0 <= CellCount::CEILING
 }
 
+#[tactic(auto, unfolding(crate::specs::Cells::field_holds, machine::specs::Table::is_free))]
 fn field_holds(table: &[u16], index: usize, k: usize) -> bool
     requires { TableShape table.now × (index < capacity table.now) × (k ≤ right) }
     ensures { result ≡ field_holds table.now index k }
 {
-    if cells::in_use(table, index) {
-        return field_sound(table, cells::field(table, index, k));
-    }
-    true
+    !cells::in_use(table, index) || field_sound(table, cells::field(table, index, k))
 }
 
 // Stops at the first cell field that breaks the rule.
@@ -52,20 +42,18 @@ pub fn cells_sound(table: &[u16]) -> bool
     requires { TableShape table.now }
     ensures { result ≡ cells_sound table.now }
 {
-    let c = cells::capacity_of(table) as usize;
-    let mut index = 0;
-    'cells: while index < c {
-        if !counts_sound(table, index) {
+    let mut sound = true;
+    'cells: for index in 0..cells::capacity_of(table) as usize {
+        sound = counts_sound(table, index);
+        if !sound {
             break;
         }
-        let mut k = cells::LEFT;
-        while k <= cells::RIGHT {
-            if !field_holds(table, index, k) {
+        for k in [cells::LEFT, cells::RIGHT] {
+            sound = field_holds(table, index, k);
+            if !sound {
                 break 'cells;
             }
-            k += 1;
         }
-        index += 1;
     }
-    index == c
+    sound
 }

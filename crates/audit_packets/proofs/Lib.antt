@@ -1,5 +1,4 @@
 -- Laws that join what the code tests to the rule S3.
 pub mod LegalPackets
 pub mod NamesInScratch
-pub mod Parts
 pub mod ReplayedCounts

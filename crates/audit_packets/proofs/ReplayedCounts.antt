@@ -3,8 +3,8 @@ use mathlib.Core.Path.{◌≡◌, refl, sym, ap, ap₂, ◌∙◌, subst}
 use mathlib.Core.Logic.{⊎_elim}
 use mathlib.Core.Bool.{Bool, true, false, not, ◌&&◌}
 use mathlib.Core.List.{List, [], ◌∷◌, ◌++◌}
-use Prim.Native.Nat.{ℕ, zero, suc, pred, ◌+◌, ◌-◌, ◌%◌, ◌≤◌, ◌<◌}
-use native.Mathlib.Numerals.{add-one, sub-one}
+use Prim.Native.Nat.{ℕ, zero, suc, pred, ◌+◌, ◌%◌, ◌≤◌, ◌<◌}
+use native.Mathlib.Numerals.{add-one}
 use native.Mathlib.Omega.{arith}
 use lib.Dec.{leb, eqb}
 use borrow.Author.Tests.{leb-true, le-leb, eqb-true, eqb-false}
@@ -20,15 +20,11 @@ use Rattle.machine.proofs.Range.{tested, below_suc, and_both, and_first, and_sec
 use Rattle.machine.proofs.Replay.{replays_uses, replays_bound, replays_rest}
 use Rattle.machine.proofs.Ring.{packets_snoc}
 use Rattle.machine.proofs.Words.{cell_number_lem, cell_index, index_cell}
-use Rattle.queue.specs.declared.HeldSums.{HeldSums}
+use Rattle.queue.specs.Held.{HeldSums}
 use Rattle.queue.specs.Sums.{CounterSums, WithCount, at_least, at_most_ceiling}
 use Rattle.audit_packets.specs.Packets.{packet_on, oldest, cut_to, HeldAfter, stage_sound, word_replays, packet_replays, replays_all}
 use Rattle.audit_cells.proofs.Cells.{cell_counts, counts_facts}
 use Rattle.audit_cells.proofs.Tests.{and_no_first, and_decides}
-
-pub uses_by : (p : Packet) (x : ℕ) (k : Kind) → kind_of p.kind ≡ k → uses_of k p.a p.b p.c x ≡ uses p x
-unfolding uses
-uses_by p x k e = rw e
 
 -- a root count falls by no more than the call used
 minus_of : (k : Kind) (a b c x : ℕ) → moved_by root minus x (changes_of k a b) ≤ uses_of k a b c x
@@ -276,14 +272,3 @@ module _ (x n : ℕ) (ps : List Packet) (p : Packet) where
       let r : s.raised + 0 ≡ n + waiting_change root plus x (ps ++ (p ∷ [])) = omega (arith, k.raised) in
       let l : ceiling + (s.lowered + 0) ≡ ceiling + waiting_change root minus x (ps ++ (p ∷ [])) = omega (arith, k.lowered) in
       e ∙ ap₂ leb r l ∙ and_decides _ h
-
--- and of a word
-module _ (t : List ℕ) (q : Queue) (j x : ℕ) where
-  pub no_cell_replays : is_cell (capacity t) x ≡ false → word_replays t q j x ≡ true
-  unfolding word_replays
-  no_cell_replays h = rw h
-
-  pub cell_replays : is_cell (capacity t) x ≡ true → (n : ℕ) (r : Bool) → n ≡ word_at t (x - 1) root_count
-      → r ≡ stage_sound x n (oldest q j) (packet_on q j) → r ≡ word_replays t q j x
-  unfolding word_replays
-  cell_replays h n r e k = rw (h, ← (sub-one x), ← e) k

@@ -7,7 +7,7 @@ use Rattle.machine.specs.Queue.{Packet, slots, placed, slot, packets_from, waiti
 use Rattle.machine.specs.Range.{every}
 use Rattle.machine.specs.Table.{root_count, capacity, word_at}
 use Rattle.machine.specs.Words.{is_cell, ceiling}
-use Rattle.queue.specs.declared.HeldSums.{HeldSums}
+use Rattle.queue.specs.Held.{HeldSums}
 use Rattle.queue.specs.Sums.{AtMost}
 
 -- the packet that j older ones wait before, and those

@@ -19,18 +19,13 @@ use replay::packets_replay;
 use slots::other_slots_zero;
 
 // Exact where S1 holds, which is asked first.
-pub fn packets_sound(table: &[u16], queue: Queue, scratch: &mut [u16]) -> bool
-    requires { Lent table.now queue scratch.old × (cells_sound table.now ≡ true) }
-    ensures { Audits table.now (packets_sound table.now queue) scratch.old scratch.new result }
+#[tactic(auto, unfolding(machine::specs::Audit::packets_sound, crate::specs::Packets::replays_all))]
+pub fn packets_sound(table: &[u16], queue: &Queue, scratch: &mut [u16]) -> bool
+    requires { Lent table.now queue.now scratch.old × (cells_sound table.now ≡ true) }
+    ensures { Audits table.now (packets_sound table.now queue.now) scratch.old scratch.new result }
 {
-    if !other_slots_zero(queue) {
-        return false;
-    }
-    if !packets_legal(table, queue) {
-        return false;
-    }
-    if !packets_replay(table, queue) {
-        return false;
-    }
-    names_counted(table, queue, scratch)
+    other_slots_zero(queue)
+        && packets_legal(table, queue)
+        && packets_replay(table, queue)
+        && names_counted(table, queue, scratch)
 }

@@ -28,16 +28,13 @@ fn count_packet(scratch: &mut [u16], c: u16, p: Packet)
     raise(scratch, c, names.z);
 }
 
-fn count_names(queue: Queue, scratch: &mut [u16], c: u16)
-    requires { QueueShape queue × (scratch_words c ≤ length scratch.old) }
-    ensures { NamesCount c (waiting queue) scratch.old scratch.new }
+fn count_names(queue: &Queue, scratch: &mut [u16], c: u16)
+    requires { QueueShape queue.now × (scratch_words c ≤ length scratch.old) }
+    ensures { NamesCount c (waiting queue.now) scratch.old scratch.new }
 {
     clear(scratch, c);
-    let count = queue.count;
-    let mut j: u16 = 0;
-    while j < count {
+    for j in 0..queue.count {
         count_packet(scratch, c, packet_on(queue, j));
-        j += 1;
     }
 }
 
@@ -56,9 +53,9 @@ fn names_match(table: &[u16], scratch: &[u16]) -> bool
     true
 }
 
-pub(crate) fn names_counted(table: &[u16], queue: Queue, scratch: &mut [u16]) -> bool
-    requires { Lent table.now queue scratch.old }
-    ensures { Audits table.now (names_counted table.now (waiting queue)) scratch.old scratch.new result }
+pub(crate) fn names_counted(table: &[u16], queue: &Queue, scratch: &mut [u16]) -> bool
+    requires { Lent table.now queue.now scratch.old }
+    ensures { Audits table.now (names_counted table.now (waiting queue.now)) scratch.old scratch.new result }
 {
     count_names(queue, scratch, cells::capacity_of(table));
     names_match(table, scratch)

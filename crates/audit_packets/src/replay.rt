@@ -15,80 +15,64 @@ use questions::is_cell;
 use queue::{HeldSums, Packet};
 
 // How often the call behind a packet names x.
+#[tactic(auto, unfolding(machine::specs::Packets::uses, machine::specs::Packets::uses_of, machine::specs::Packets::kind_of))]
 fn times_named(p: Packet, x: u16) -> u32
     ensures { (result ≡ uses (packet_of p) x) × (result ≤ largest_word) }
 {
-    let kind = p.kind;
-    match kind {
-        Packet::READ => queue::matched(p.a, x, 1),
+    match p.kind {
+        Packet::READ | Packet::UP => queue::matched(p.a, x, 1),
         Packet::CONS => queue::matched(p.a, x, 1) + queue::matched(p.b, x, 1),
-        Packet::REPLACE_LEFT | Packet::REPLACE_RIGHT => queue::matched(p.a, x, 1)
-            + queue::matched(p.c, x, 1),
-        Packet::UP => queue::matched(p.a, x, 1),
+        Packet::REPLACE_LEFT | Packet::REPLACE_RIGHT => {
+            queue::matched(p.a, x, 1) + queue::matched(p.c, x, 1)
+        }
         Packet::DOWN => queue::matched(p.a, x, p.b),
         _ => 0,
     }
 }
 
 // The held count of the cell x, with its root count, after the j oldest packets.
-fn held_after(queue: Queue, j: u16, x: u16, root: RootCount) -> HeldSums
-    requires { (queue.place < slots) × (j ≤ slots) }
-    ensures { HeldAfter (oldest queue j) x root.0 result }
+fn held_after(queue: &Queue, j: u16, x: u16, root: RootCount) -> HeldSums
+    requires { (queue.now.place < slots) × (j ≤ slots) }
+    ensures { HeldAfter (oldest queue.now j) x root.0 result }
 {
     let sums = queue::waiting_changes(&queue.kinds, &queue.a, &queue.b, queue.place, j, x);
-    let held = sums.held;
-    held.with(root)
+    sums.held.with(root)
 }
 
 // Questions 6 and 9 of the cell x, with its root count, at the packet that j older ones wait before.
-fn stage_sound(queue: Queue, j: u16, x: u16, root: RootCount) -> bool
-    requires { (queue.place < slots) × (j < slots) }
-    ensures { result ≡ stage_sound x root.0 (oldest queue j) (packet_on queue j) }
+fn stage_sound(queue: &Queue, j: u16, x: u16, root: RootCount) -> bool
+    requires { (queue.now.place < slots) × (j < slots) }
+    ensures { result ≡ stage_sound x root.0 (oldest queue.now j) (packet_on queue.now j) }
 {
     let before = held_after(queue, j, x, root);
-    if !before.at_least(times_named(packet_on(queue, j), x)) {
-        return false;
-    }
     let after = held_after(queue, j + 1, x, root);
-    after.within(0, 0)
+    before.at_least(times_named(packet_on(queue, j), x)) && after.within(0, 0)
 }
 
 // A word that is no cell has no counts.
-fn word_replays(table: &[u16], queue: Queue, j: u16, x: u16) -> bool
-    requires { TableShape table.now × (queue.place < slots) × (j < slots) }
-    ensures { result ≡ word_replays table.now queue j x }
+#[tactic(auto, using(audit_cells::proofs::Tests::index_of), unfolding(crate::specs::Packets::word_replays, machine::specs::Words::is_cell))]
+fn word_replays(table: &[u16], queue: &Queue, j: u16, x: u16) -> bool
+    requires { TableShape table.now × (queue.now.place < slots) × (j < slots) }
+    ensures { result ≡ word_replays table.now queue.now j x }
 {
-    if !is_cell(cells::capacity_of(table), x) {
-        return true;
-    }
-    stage_sound(queue, j, x, cells::root_count(table, (x - 1) as usize))
+    !is_cell(cells::capacity_of(table), x)
+        || stage_sound(queue, j, x, cells::root_count(table, (x - 1) as usize))
 }
 
-fn packet_replays(table: &[u16], queue: Queue, j: u16) -> bool
-    requires { TableShape table.now × (queue.place < slots) × (j < slots) }
-    ensures { result ≡ packet_replays table.now queue j }
+#[tactic(auto, unfolding(crate::specs::Packets::packet_replays))]
+fn packet_replays(table: &[u16], queue: &Queue, j: u16) -> bool
+    requires { TableShape table.now × (queue.now.place < slots) × (j < slots) }
+    ensures { result ≡ packet_replays table.now queue.now j }
 {
     let p = packet_on(queue, j);
-    if !word_replays(table, queue, j, p.a) {
-        return false;
-    }
-    if !word_replays(table, queue, j, p.b) {
-        return false;
-    }
-    word_replays(table, queue, j, p.c)
+    word_replays(table, queue, j, p.a)
+        && word_replays(table, queue, j, p.b)
+        && word_replays(table, queue, j, p.c)
 }
 
-pub(crate) fn packets_replay(table: &[u16], queue: Queue) -> bool
-    requires { Shape table.now queue × (cells_sound table.now ≡ true) }
-    ensures { result ≡ replays_all table.now queue }
+pub(crate) fn packets_replay(table: &[u16], queue: &Queue) -> bool
+    requires { Shape table.now queue.now × (cells_sound table.now ≡ true) }
+    ensures { result ≡ replays_all table.now queue.now }
 {
-    let count = queue.count;
-    let mut j: u16 = 0;
-    while j < count {
-        if !packet_replays(table, queue, j) {
-            return false;
-        }
-        j += 1;
-    }
-    true
+    (0..queue.count).all(|j| packet_replays(table, queue, j))
 }

@@ -10,46 +10,30 @@ use machine::Queue;
 use queue::Packet;
 
 // The packet that j older ones wait before.
-pub fn packet_on(queue: Queue, j: u16) -> Packet
-    requires { (queue.place < slots) × (j < slots) }
-    ensures { packet_of result ≡ packet_on queue j }
+pub fn packet_on(queue: &Queue, j: u16) -> Packet
+    requires { (queue.now.place < slots) × (j < slots) }
+    ensures { packet_of result ≡ packet_on queue.now j }
 {
-    queue::packet_at(queue, queue::slot_after(queue.place, j))
+    queue::packet_at(*queue, queue::slot_after(queue.place, j))
 }
 
+#[tactic(auto, unfolding(machine::specs::Audit::is_zero_packet))]
 fn is_zero(p: Packet) -> bool
     ensures { result ≡ is_zero_packet (packet_of p) }
 {
-    if p.kind != 0 {
-        return false;
-    }
-    if p.a != 0 {
-        return false;
-    }
-    if p.b != 0 {
-        return false;
-    }
-    p.c == 0
+    p.kind == 0 && p.a == 0 && p.b == 0 && p.c == 0
 }
 
-fn rest_zero(queue: Queue, j: u16) -> bool
-    requires { (queue.place < slots) × (queue.count + j < slots) }
-    ensures { result ≡ rest_zero queue j }
+fn rest_zero(queue: &Queue, j: u16) -> bool
+    requires { (queue.now.place < slots) × (queue.now.count + j < slots) }
+    ensures { result ≡ rest_zero queue.now j }
 {
     is_zero(packet_on(queue, queue.count + j))
 }
 
-pub fn other_slots_zero(queue: Queue) -> bool
-    requires { QueueShape queue }
-    ensures { result ≡ other_slots_zero queue }
+pub fn other_slots_zero(queue: &Queue) -> bool
+    requires { QueueShape queue.now }
+    ensures { result ≡ other_slots_zero queue.now }
 {
-    let rest = Queue::SLOTS - queue.count;
-    let mut j: u16 = 0;
-    while j < rest {
-        if !rest_zero(queue, j) {
-            return false;
-        }
-        j += 1;
-    }
-    true
+    (0..Queue::SLOTS - queue.count).all(|j| rest_zero(queue, j))
 }

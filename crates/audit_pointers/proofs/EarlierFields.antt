@@ -199,10 +199,6 @@ stage_field_lem t (p ∷ ps) f a i k l =
     field_undone t (before t ps) (refielded t ps a.1) f (kind_of p.kind) p.a p.b p.c a.0 i k l
     ∙ ap (field_before_of (kind_of p.kind) p.b p.c i k) (stage_field_lem t ps f a.1 i k l)
 
-pub before_by : (p : Packet) (i k w : ℕ) (κ : Kind) → kind_of p.kind ≡ κ → field_before_of κ p.b p.c i k w ≡ field_before p i k w
-unfolding field_before
-before_by p i k w κ e = rw e
-
 -- one packet more undone
 pub stage_less : (t : List ℕ) (q : Queue) (i k w j : ℕ) → 0 < j → j ≤ q.count → w ≡ stage_field t (newer q j) i k
     → field_before (packet_on q (j - 1)) i k w ≡ stage_field t (newer q (j - 1)) i k
@@ -234,18 +230,6 @@ unfolding kind_of
 keeps k a b c =
     rw (ne_eqb k 2 a, ne_eqb k 3 b, ne_eqb k 6 c)
     (keeps_cond (eqb k 1) reads _ tt (keeps_cond (eqb k 4) raises _ tt (keeps_cond (eqb k 5) lowers unknown tt tt)))
-
-pub kept_field : (p : Packet) (i k w : ℕ) → Keeps (kind_of p.kind) → field_before p i k w ≡ w
-unfolding field_before
-kept_field p i k w h = go (kind_of p.kind) h
-  where
-    go : (κ : Kind) → Keeps κ → field_before_of κ p.b p.c i k w ≡ w
-    go reads h = unfold field_before_of in refl
-    go makes h = absurd h
-    go (replaces f) h = absurd h
-    go raises h = unfold field_before_of in refl
-    go lowers h = unfold field_before_of in refl
-    go unknown h = unfold field_before_of in refl
 
 pub kept_undo : (v : List ℕ) (p : Packet) → Keeps (kind_of p.kind) → (undone v p ≡ v) × (undoable v p ≡ true)
 unfolding undone undoable

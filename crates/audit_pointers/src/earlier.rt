@@ -15,45 +15,34 @@ fn put_back(cell: u16, index: usize, old: u16, after: u16) -> u16
     requires { index < most_cells }
     ensures { result ≡ cond (eqb cell (suc index)) old after }
 {
-    if (cell as usize) == index + 1 {
-        return old;
+    if usize::from(cell) == index + 1 {
+        old
+    } else {
+        after
     }
-    after
 }
 
 // Field k of the cell at an index before a packet, from what it holds after it.
+#[tactic(auto, unfolding(crate::specs::EarlierFields::field_before, crate::specs::EarlierFields::field_before_of, machine::specs::Packets::kind_of))]
 fn field_before(p: Packet, index: usize, k: usize, after: u16) -> u16
     requires { (index < most_cells) × (k ≤ right) }
     ensures { result ≡ field_before (packet_of p) index k after }
 {
-    let kind = p.kind;
-    match kind {
+    match p.kind {
         Packet::CONS => put_back(p.c, index, 0, after),
-        Packet::REPLACE_LEFT => {
-            if k == cells::LEFT {
-                return put_back(p.c, index, p.b, after);
-            }
-            after
-        }
-        Packet::REPLACE_RIGHT => {
-            if k == cells::RIGHT {
-                return put_back(p.c, index, p.b, after);
-            }
-            after
-        }
+        Packet::REPLACE_LEFT if k == cells::LEFT => put_back(p.c, index, p.b, after),
+        Packet::REPLACE_RIGHT if k == cells::RIGHT => put_back(p.c, index, p.b, after),
         _ => after,
     }
 }
 
 // The field before all packets from the one on that `from` older ones wait before.
-pub(crate) fn stage_field(table: &[u16], queue: Queue, from: u16, index: usize, k: usize) -> u16
-    requires { Shape table.now queue × (from ≤ queue.count) × (index < capacity table.now) × (k ≤ right) }
-    ensures { result ≡ stage_field table.now (newer queue from) index k }
+pub(crate) fn stage_field(table: &[u16], queue: &Queue, from: u16, index: usize, k: usize) -> u16
+    requires { Shape table.now queue.now × (from ≤ queue.now.count) × (index < capacity table.now) × (k ≤ right) }
+    ensures { result ≡ stage_field table.now (newer queue.now from) index k }
 {
     let mut w = cells::field(table, index, k);
-    let mut j = queue.count;
-    while from < j {
-        j -= 1;
+    for j in (from..queue.count).rev() {
         w = field_before(packet_on(queue, j), index, k, w);
     }
     w

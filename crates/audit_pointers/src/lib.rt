@@ -22,99 +22,73 @@ use scratch_counts::{lower, raise};
 
 fn undo_replace(
     table: &[u16],
-    queue: Queue,
+    queue: &Queue,
     j: u16,
     k: usize,
-    a: u16,
-    b: u16,
-    cell: u16,
+    p: Packet,
     scratch: &mut [u16],
 ) -> bool
-    requires { Undoable table.now queue j scratch.old × UsedCell table.now cell × (k ≤ right) }
-    ensures { UndoesKind table.now queue j (replaces k) a b cell scratch.old scratch.new result }
+    requires { Undoable table.now queue.now j scratch.old × UsedCell table.now p.c × (k ≤ right) }
+    ensures { UndoesKind table.now queue.now j (replaces k) p.a p.b p.c scratch.old scratch.new result }
 {
-    if stage_field(table, queue, j + 1, (cell - 1) as usize, k) != a {
+    if stage_field(table, queue, j + 1, (p.c - 1) as usize, k) != p.a {
         return false;
     }
     let c = cells::capacity_of(table);
-    raise(scratch, c, b);
-    lower(scratch, c, a);
-    word_within(scratch, c, b)
+    raise(scratch, c, p.b);
+    lower(scratch, c, p.a);
+    word_within(scratch, c, p.b)
 }
 
 // Nil twice for a and b: pointers only fall.
-fn undo_cons(
-    table: &[u16],
-    queue: Queue,
-    j: u16,
-    a: u16,
-    b: u16,
-    cell: u16,
-    scratch: &mut [u16],
-) -> bool
-    requires { Undoable table.now queue j scratch.old × UsedCell table.now cell }
-    ensures { UndoesKind table.now queue j makes a b cell scratch.old scratch.new result }
+fn undo_cons(table: &[u16], queue: &Queue, j: u16, p: Packet, scratch: &mut [u16]) -> bool
+    requires { Undoable table.now queue.now j scratch.old × UsedCell table.now p.c }
+    ensures { UndoesKind table.now queue.now j makes p.a p.b p.c scratch.old scratch.new result }
 {
-    let index = (cell - 1) as usize;
-    if stage_field(table, queue, j + 1, index, cells::LEFT) != a {
-        return false;
-    }
-    if stage_field(table, queue, j + 1, index, cells::RIGHT) != b {
+    let index = (p.c - 1) as usize;
+    let left = stage_field(table, queue, j + 1, index, cells::LEFT);
+    let right = stage_field(table, queue, j + 1, index, cells::RIGHT);
+    if left != p.a || right != p.b {
         return false;
     }
     let c = cells::capacity_of(table);
-    lower(scratch, c, a);
-    lower(scratch, c, b);
+    lower(scratch, c, p.a);
+    lower(scratch, c, p.b);
     true
 }
 
 // The packet that j older ones wait before, undone: reads, ups and downs wrote no field.
-fn undo(table: &[u16], queue: Queue, j: u16, scratch: &mut [u16]) -> bool
-    requires { Undoable table.now queue j scratch.old }
-    ensures { UndoesPacket table.now queue j scratch.old scratch.new result }
+fn undo(table: &[u16], queue: &Queue, j: u16, scratch: &mut [u16]) -> bool
+    requires { Undoable table.now queue.now j scratch.old }
+    ensures { UndoesPacket table.now queue.now j scratch.old scratch.new result }
 {
     let p = packet_on(queue, j);
-    let kind = p.kind;
-    match kind {
-        Packet::CONS => undo_cons(table, queue, j, p.a, p.b, p.c, scratch),
-        Packet::REPLACE_LEFT => undo_replace(table, queue, j, cells::LEFT, p.a, p.b, p.c, scratch),
-        Packet::REPLACE_RIGHT => undo_replace(
-            table,
-            queue,
-            j,
-            cells::RIGHT,
-            p.a,
-            p.b,
-            p.c,
-            scratch,
-        ),
+    match p.kind {
+        Packet::CONS => undo_cons(table, queue, j, p, scratch),
+        Packet::REPLACE_LEFT => undo_replace(table, queue, j, cells::LEFT, p, scratch),
+        Packet::REPLACE_RIGHT => undo_replace(table, queue, j, cells::RIGHT, p, scratch),
         _ => true,
     }
 }
 
-fn undo_all(table: &[u16], queue: Queue, scratch: &mut [u16]) -> bool
-    requires { Undoing table.now queue queue.count scratch.old scratch.old }
-    ensures { Audits table.now (pointers_sound table.now (waiting queue)) scratch.old scratch.new result }
+fn undo_all(table: &[u16], queue: &Queue, scratch: &mut [u16]) -> bool
+    requires { Undoing table.now queue.now queue.now.count scratch.old scratch.old }
+    ensures { Audits table.now (pointers_sound table.now (waiting queue.now)) scratch.old scratch.new result }
 {
-    let mut j = queue.count;
-    while 0 < j {
-        if !undo(table, queue, j - 1, scratch) {
+    for j in (0..queue.count).rev() {
+        if !undo(table, queue, j, scratch) {
             return false;
         }
-        j -= 1;
     }
     counts_match(table, scratch)
 }
 
 // Exact where S3 holds, which is asked before.
-pub fn pointers_sound(table: &[u16], queue: Queue, scratch: &mut [u16]) -> bool
-    requires { Stageable table.now queue scratch.old }
-    ensures { Audits table.now (pointers_sound table.now (waiting queue)) scratch.old scratch.new result }
+pub fn pointers_sound(table: &[u16], queue: &Queue, scratch: &mut [u16]) -> bool
+    requires { Stageable table.now queue.now scratch.old }
+    ensures { Audits table.now (pointers_sound table.now (waiting queue.now)) scratch.old scratch.new result }
 {
     let c = cells::capacity_of(table);
     count_pointers(table, scratch, c);
-    if !all_within(scratch, c) {
-        return false;
-    }
-    undo_all(table, queue, scratch)
+    all_within(scratch, c) && undo_all(table, queue, scratch)
 }

@@ -6,7 +6,7 @@ ghost use Rattle.machine.specs.Facts.{TableShape};
 ghost use Rattle.scratch_counts.specs.Counts.{Below};
 ghost use Rattle.audit_pointers.specs.PointerCounts.{most_pointers, CountCell, Counted, count_within, word_within, count_matches};
 
-use machine::CellCount;
+use machine::{CellCount, Limited};
 use marks::clear;
 use questions::is_cell;
 use scratch_counts::raise;
@@ -27,11 +27,8 @@ pub(crate) fn count_pointers(table: &[u16], scratch: &mut [u16], c: u16)
     ensures { Counted table.now c scratch.old scratch.new }
 {
     clear(scratch, c);
-    let n = c as usize;
-    let mut index: usize = 0;
-    while index < n {
+    for index in 0..usize::from(c) {
         count_cell(table, index, scratch, c);
-        index += 1;
     }
 }
 
@@ -39,38 +36,23 @@ pub(crate) fn all_within(scratch: &[u16], c: u16) -> bool
     requires { scratch_words c ≤ length scratch.now }
     ensures { result ≡ every c (count_within scratch.now) }
 {
-    let n = c as usize;
-    let mut i: usize = 0;
-    while i < n {
-        if CellCount::CEILING < scratch[i] {
-            return false;
-        }
-        i += 1;
-    }
-    true
+    scratch[..cells::scratch_for(c)]
+        .iter()
+        .all(|count| *count <= CellCount::CEILING)
 }
 
+#[tactic(auto, using(audit_cells::proofs::Tests::index_of), unfolding(crate::specs::PointerCounts::word_within, crate::specs::PointerCounts::count_within, machine::specs::Words::is_cell, machine::specs::Table::scratch_words))]
 pub(crate) fn word_within(scratch: &[u16], c: u16, w: u16) -> bool
     requires { scratch_words c ≤ length scratch.now }
     ensures { result ≡ word_within c scratch.now w }
 {
-    if is_cell(c, w) {
-        return scratch[(w - 1) as usize] <= CellCount::CEILING;
-    }
-    true
+    !is_cell(c, w) || scratch[(w - 1) as usize] <= CellCount::CEILING
 }
 
+#[tactic(auto, unfolding(machine::specs::Table::scratch_words))]
 pub(crate) fn counts_match(table: &[u16], scratch: &[u16]) -> bool
     requires { TableShape table.now × (scratch_words (capacity table.now) ≤ length scratch.now) }
     ensures { result ≡ every (capacity table.now) (count_matches table.now scratch.now) }
 {
-    let c = cells::capacity_of(table) as usize;
-    let mut i: usize = 0;
-    while i < c {
-        if cells::cell_count(table, i).0 != scratch[i] {
-            return false;
-        }
-        i += 1;
-    }
-    true
+    (0..cells::capacity_of(table) as usize).all(|i| cells::cell_count(table, i).0 == scratch[i])
 }

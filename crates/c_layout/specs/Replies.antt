@@ -3,7 +3,7 @@ use Rattle.std.specs.Prelude.{◌≡◌, cond, eqb, length, replicate, ℕ}
 use Rattle.std.proofs.Math.Option.{Option, none, some}
 use Rattle.machine.specs.Calls as machine
 use Rattle.machine.specs.Calls.{value, refused, idle, applied, sound, broken, text}
-use Rattle.machine.specs.declared.LengthAnswer.{LengthAnswer}
+use Rattle.machine.specs.Answers.{LengthAnswer}
 use Rattle.machine.specs.Answers.{TellsLength}
 use Rattle.c_layout.specs.declared.Reply.{Reply}
 use Rattle.c_layout.specs.declared.Tag.{Tag}

@@ -8,7 +8,9 @@ ghost use Rattle.machine.specs.Calls.{refused};
 ghost use Rattle.machine.specs.Answers.{refusal_number, row_reply, fresh_reply, step_reply, audit_answer_reply};
 ghost use Rattle.c_layout.specs.Replies.{reply, tag_number, told, LengthTold};
 
-use machine::{AuditAnswer, FreshAnswer, LengthAnswer, Refusal, RowAnswer, StepAnswer};
+use machine::{
+    AuditAnswer, Finding, FreshAnswer, LengthAnswer, Refusal, RowAnswer, Step, StepAnswer,
+};
 
 // In C `struct row_reply`.
 #[repr(C)]
@@ -51,8 +53,8 @@ pub fn row_told(answer: RowAnswer) -> Reply
     ensures { result ≡ told (row_reply answer) }
 {
     match answer {
-        RowAnswer::Done(word) => tagged(Tag::Value, word, 0),
-        RowAnswer::Refused(refusal) => refused(refusal),
+        Ok(word) => tagged(Tag::Value, word, 0),
+        Err(refusal) => refused(refusal),
     }
 }
 
@@ -60,8 +62,8 @@ pub fn fresh_told(answer: FreshAnswer) -> Reply
     ensures { result ≡ told (fresh_reply answer) }
 {
     match answer {
-        FreshAnswer::Done => tagged(Tag::Value, 0, 0),
-        FreshAnswer::Refused(refusal) => refused(refusal),
+        Ok(()) => tagged(Tag::Value, 0, 0),
+        Err(refusal) => refused(refusal),
     }
 }
 
@@ -69,9 +71,9 @@ pub fn step_told(answer: StepAnswer) -> Reply
     ensures { result ≡ told (step_reply answer) }
 {
     match answer {
-        StepAnswer::Idle => tagged(Tag::Idle, 0, 0),
-        StepAnswer::Applied { kind, freed } => tagged(Tag::Applied, kind, usize::from(freed)),
-        StepAnswer::Refused(refusal) => refused(refusal),
+        Ok(Step::Idle) => tagged(Tag::Idle, 0, 0),
+        Ok(Step::Applied { kind, freed }) => tagged(Tag::Applied, kind, usize::from(freed)),
+        Err(refusal) => refused(refusal),
     }
 }
 
@@ -79,9 +81,9 @@ pub fn audit_told(answer: AuditAnswer) -> Reply
     ensures { result ≡ told (audit_answer_reply answer) }
 {
     match answer {
-        AuditAnswer::Sound => tagged(Tag::Sound, 0, 0),
-        AuditAnswer::Broken(rule) => tagged(Tag::Broken, rule.number(), 0),
-        AuditAnswer::Refused(refusal) => refused(refusal),
+        Ok(Finding::Sound) => tagged(Tag::Sound, 0, 0),
+        Ok(Finding::Broken(rule)) => tagged(Tag::Broken, rule.number(), 0),
+        Err(refusal) => refused(refusal),
     }
 }
 
@@ -89,7 +91,7 @@ pub fn length_told(answer: LengthAnswer) -> Reply
     ensures { LengthTold answer result }
 {
     match answer {
-        LengthAnswer::Length(bytes) => tagged(Tag::Text, 0, bytes),
-        LengthAnswer::Refused(refusal) => refused(refusal),
+        Ok(bytes) => tagged(Tag::Text, 0, bytes),
+        Err(refusal) => refused(refusal),
     }
 }

@@ -3,7 +3,7 @@ use mathlib.Core.Path.{◌≡◌, sym, subst, subst₂}
 use mathlib.Core.List.{List, []}
 use Prim.Native.Nat.{ℕ}
 use Rattle.machine.specs.declared.Queue.{Queue}
-use Rattle.machine.specs.declared.LengthAnswer.{LengthAnswer}
+use Rattle.machine.specs.Answers.{LengthAnswer}
 use Rattle.machine.specs.Calls as machine
 use Rattle.machine.specs.Calls.{Call, store}
 use Rattle.machine.specs.Promise.{Promise, TextPut}

@@ -9,7 +9,7 @@ use lib.ListN.{length}
 use borrow.Author.Tests.{leb-true, eqb-false, not-true}
 use Rattle.machine.specs.declared.Queue.{Queue}
 use Rattle.machine.specs.declared.RowCall as declared
-use Rattle.machine.specs.declared.Asked.{Asked}
+use Rattle.machine.specs.Answers.{Asked}
 use Rattle.machine.specs.Range.{every_of}
 use Rattle.machine.specs.Words.{is_nil, is_cell, is_atom, is_legal, may_be_stored, ceiling}
 use Rattle.machine.specs.Table.{capacity, first_free, table_length}

@@ -1,4 +1,5 @@
 -- The early questions as chains of numbers: which number each "no" gives, what follows where there is none, and that the chains are the machine's lists.
+use Rattle.std.specs.Prelude.{Ok, Err}
 use mathlib.Core.Path.{◌≡◌, refl, sym, ap, ◌∙◌}
 use mathlib.Core.Logic.{⊎_elim}
 use mathlib.Core.Bool.{Bool, true, false, not}
@@ -12,7 +13,7 @@ use Rattle.machine.specs.Table.{capacity}
 use Rattle.machine.specs.Questions.{refused_by, in_range, number_in_range}
 use Rattle.machine.proofs.Range.{tested}
 use Rattle.machine.specs.Facts.{Shape}
-use Rattle.machine.specs.declared.Asked.{Asked}
+use Rattle.machine.specs.Answers.{Asked}
 use Rattle.machine.specs.declared.Refusal.{Refusal}
 use Rattle.machine.specs.Answers.{asked_number}
 use Rattle.machine.proofs.Answers.{refusal_some, asked_no, asked_yes}
@@ -67,7 +68,7 @@ pub none_before : (a m n : ℕ) → a ≡ 0 → n ≡ m → n ≡ first_of a m
 none_before a m n z h = h ∙ sym (ap (λ (i : ℕ). first_of i m) z)
 
 -- an early "no" is the call's, and else the late answer is
-pub early_first : (total a b : ℕ) (r : Asked) (f : Refusal) → total ≡ first_of a b → asked_number r ≡ a → r ≡ Asked.No f → asked_number r ≡ total
+pub early_first : (total a b : ℕ) (r : Asked) (f : Refusal) → total ≡ first_of a b → asked_number r ≡ a → r ≡ Err f → asked_number r ≡ total
 early_first total a b r f e h d = h ∙ sym (first_some a b (λ z. omega (arith, refusal_some f, asked_no h d ∙ z))) ∙ sym e
 
 pub late_first : (total a b : ℕ) (r : Asked) → total ≡ first_of a b → a ≡ 0 → asked_number r ≡ b → asked_number r ≡ total
@@ -77,12 +78,12 @@ late_first total a b r e z h = none_before a b (asked_number r) z h ∙ sym e
 pub stored_behind : (n a b m : ℕ) → n ≡ first_of a m → a ≡ b → n ≡ first_of b m
 stored_behind n a b m e h = e ∙ ap (λ (i : ℕ). first_of i m) h
 
-pub words_first : (t : List ℕ) (q : Queue) (n x y : ℕ) (r : Asked) (f : Refusal) → asked_number r ≡ words_number t q n x y → r ≡ Asked.No f
+pub words_first : (t : List ℕ) (q : Queue) (n x y : ℕ) (r : Asked) (f : Refusal) → asked_number r ≡ words_number t q n x y → r ≡ Err f
     → asked_number r ≡ cell_number t q n x y
 unfolding cell_number
 words_first t q n x y r f h d = early_first (cell_number t q n x y) (words_number t q n x y) (refused_by (is_cell (capacity t) x) 5 0) r f refl h d
 
-module _ (t : List ℕ) (q : Queue) (n x y : ℕ) (r : Asked) (yes : r ≡ Asked.Yes) where
+module _ (t : List ℕ) (q : Queue) (n x y : ℕ) (r : Asked) (yes : r ≡ Ok tt) where
   pub words_ready : asked_number r ≡ words_number t q n x y → Shape t q
   words_ready h = words_shape t q n x y (sym (asked_yes h yes))
 

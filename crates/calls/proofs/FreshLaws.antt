@@ -1,4 +1,5 @@
 -- Fresh's writes one by one are the machine's; and its answers.
+use Rattle.std.specs.Prelude.{Ok, Err}
 use mathlib.Core.Path.{◌≡◌, refl, sym, ap, ap₂, ◌∙◌}
 use mathlib.Core.Bool.{Bool, true, false, cond}
 use mathlib.Core.List.{List, [], ◌∷◌}
@@ -9,7 +10,7 @@ use lib.Dec.{leb, eqb}
 use lib.ListN.{length, set}
 use borrow.Author.Tests.{eq-eqb, ne_eqb, leb-true}
 use Rattle.machine.specs.declared.Queue.{Queue}
-use Rattle.machine.specs.declared.FreshAnswer.{FreshAnswer}
+use Rattle.machine.specs.Answers.{FreshAnswer}
 use Rattle.machine.specs.declared.Refusal.{Refusal}
 use Rattle.machine.specs.Words.{most_cells}
 use Rattle.machine.specs.Table.{free_cell, table_length, put_ends, put_cell}
@@ -53,7 +54,7 @@ module _ (t : List ℕ) (q : Queue) (c : ℕ) where
   unfolding machine questions early late
   fresh_first a b e d = ap₂ (λ (x y : Bool). answered (first_no (ask 3 x ∷ ask 1 y ∷ [])) (store t q []) (fresh c)) e d
 
-  pub fresh_number : cells_in_range c ≡ false → FreshCalled t q c (FreshAnswer.Refused Refusal.NumberOutOfRange) t q
+  pub fresh_number : cells_in_range c ≡ false → FreshCalled t q c (Err Refusal.NumberOutOfRange) t q
   unfolding answered first_no
   fresh_number e =
       let o = fresh_first false (long_enough c t) e refl in
@@ -63,7 +64,7 @@ module _ (t : List ℕ) (q : Queue) (c : ℕ) where
         queue = sym (ap (λ (x : Outcome). x.after.queue) o);
       }
 
-  pub fresh_short : cells_in_range c ≡ true → long_enough c t ≡ false → FreshCalled t q c (FreshAnswer.Refused Refusal.StoreOutOfRange) t q
+  pub fresh_short : cells_in_range c ≡ true → long_enough c t ≡ false → FreshCalled t q c (Err Refusal.StoreOutOfRange) t q
   unfolding answered first_no
   fresh_short a b =
       let o = fresh_first true false a b in
@@ -74,7 +75,7 @@ module _ (t : List ℕ) (q : Queue) (c : ℕ) where
       }
 
   pub fresh_done : (t' : List ℕ) (q' : Queue) → cells_in_range c ≡ true → long_enough c t ≡ true → t' ≡ fresh_table c t → q' ≡ empty_queue
-      → FreshCalled t q c FreshAnswer.Done t' q'
+      → FreshCalled t q c (Ok tt) t' q'
   unfolding answered accepted first_no
   fresh_done t' q' a b e d =
       let o = fresh_first true true a b in

@@ -1,4 +1,5 @@
 -- What a row call gives, refused and done, whichever it is.
+use Rattle.std.specs.Prelude.{Ok, Err}
 use mathlib.Core.Path.{◌≡◌, refl, sym, ap, ◌∙◌}
 use mathlib.Core.Logic.{⊎_elim}
 use mathlib.Core.Bool.{Bool, true, false}
@@ -6,8 +7,8 @@ use mathlib.Core.List.{List, [], ◌∷◌, ◌++◌}
 use Prim.Native.Nat.{ℕ, zero, suc, ◌+◌, ◌%◌}
 use native.Mathlib.Omega.{arith}
 use Rattle.machine.specs.declared.Queue.{Queue}
-use Rattle.machine.specs.declared.RowAnswer.{RowAnswer}
-use Rattle.machine.specs.declared.Asked.{Asked}
+use Rattle.machine.specs.Answers.{RowAnswer}
+use Rattle.machine.specs.Answers.{Asked}
 use Rattle.machine.specs.declared.Refusal.{Refusal}
 use Rattle.machine.specs.Queue.{Packet, slots, put_slot, appended}
 use Rattle.machine.specs.Words.{is_nil}
@@ -27,7 +28,8 @@ use Rattle.counts.specs.Changes.{named_fitting}
 use Rattle.counts.proofs.Changes.{apply_fits, framed_fitting}
 use Rattle.calls.specs.Packets.{value_by}
 use Rattle.calls.specs.Tests.{code_late, code_late_row, code_questions}
-use Rattle.calls.specs.Called.{EarlyYes, answer_of, fitted_all, code_accepted, NamesFit, outcome_of, RowAsked, Queued, RowCalled}
+use Rattle.std.specs.Result.{result_and}
+use Rattle.calls.specs.Called.{EarlyYes, fitted_all, code_accepted, NamesFit, outcome_of, RowAsked, Queued, RowCalled}
 use Rattle.calls.proofs.EarlyLaws.{early_first, late_first}
 use Rattle.calls.proofs.PacketLaws.{packet_value}
 use Rattle.calls.proofs.CallLaws.{questions_split}
@@ -88,10 +90,10 @@ module _ (t : List ℕ) (q : Queue) (r : RowCall) where
       untouched (store t q []) _ _ [] (framed_trans t w (fitted_all w (packets_of t r)) (framed_written (store t q []) r h) (framed_fitted w (packets_of t r))) refl refl
 
   -- the first "no" refuses, and nothing changes
-  asked_refused : (f : Refusal) (q' : Queue) → refusal_number f ≡ first_no (code_questions t q r) → q' ≡ q → RowAsked t q r (RowAnswer.Refused f) q'
+  asked_refused : (f : Refusal) (q' : Queue) → refusal_number f ≡ first_no (code_questions t q r) → q' ≡ q → RowAsked t q r (Err f) q'
   asked_refused f q' e k = go (first_no (code_questions t q r)) refl
     where
-      go : (m : ℕ) → first_no (code_questions t q r) ≡ m → RowAsked t q r (RowAnswer.Refused f) q'
+      go : (m : ℕ) → first_no (code_questions t q r) ≡ m → RowAsked t q r (Err f) q'
       go zero d = absurd (omega (arith, refusal_some f, e ∙ d))
       go (suc m) d =
           let o = outcome_refused m d in
@@ -102,7 +104,7 @@ module _ (t : List ℕ) (q : Queue) (r : RowCall) where
 
   -- and where there is none the call is done
   asked_done : (v : ℕ) (q' : Queue) → reads_nil r ≡ false → first_no (code_questions t q r) ≡ 0 → v ≡ value_of t r → q' ≡ appended q (packet_of t r)
-      → RowAsked t q r (RowAnswer.Done v) q'
+      → RowAsked t q r (Ok v) q'
   asked_done v q' n e d c =
       let o = outcome_done e ∙ code_queued n in
       record {
@@ -115,17 +117,17 @@ module _ (t : List ℕ) (q : Queue) (r : RowCall) where
     nil_first : first_no (code_questions t q r) ≡ refused_by (in_range t q) 1 0
     nil_first = ap first_no (code_nil t q r n) ∙ nil_questions r n (store t q [])
 
-    pub nil_refused : (a : RowAnswer) (q' : Queue) → in_range t q ≡ false → a ≡ RowAnswer.Refused Refusal.StoreOutOfRange → q' ≡ q → RowAsked t q r a q'
+    pub nil_refused : (a : RowAnswer) (q' : Queue) → in_range t q ≡ false → a ≡ Err Refusal.StoreOutOfRange → q' ≡ q → RowAsked t q r a q'
     nil_refused a q' h e k = rw e (asked_refused Refusal.StoreOutOfRange q' (sym (nil_first ∙ ap (λ (b : Bool). refused_by b 1 0) h)) k)
 
-    pub nil_done : in_range t q ≡ true → RowAsked t q r (RowAnswer.Done 0) q
+    pub nil_done : in_range t q ≡ true → RowAsked t q r (Ok 0) q
     nil_done h =
         let o = outcome_done (nil_first ∙ ap (λ (b : Bool). refused_by b 1 0) h) ∙ code_nil_accepted n in
         record { reply = sym (ap (λ (x : Outcome). x.reply) o); queue = sym (ap (λ (x : Outcome). x.after.queue) o) }
 
   -- an early "no" is the call's
-  pub early_refused : (asked : Asked) (f : Refusal) (a : RowAnswer) (q' : Queue) → reads_nil r ≡ false → asked_number asked ≡ first_no (early (store t q []) (row r)) → asked ≡ Asked.No f
-      → a ≡ RowAnswer.Refused f → q' ≡ q → RowAsked t q r a q'
+  pub early_refused : (asked : Asked) (f : Refusal) (a : RowAnswer) (q' : Queue) → reads_nil r ≡ false → asked_number asked ≡ first_no (early (store t q []) (row r)) → asked ≡ Err f
+      → a ≡ Err f → q' ≡ q → RowAsked t q r a q'
   early_refused asked f a q' n s said h k =
       let first = early_first (first_no (code_questions t q r)) (first_no (early (store t q []) (row r))) (first_no (code_late t q (packet_of t r))) asked f (questions_split t q r n) s said in
       rw h (asked_refused f q' (asked_no first said) k)
@@ -135,17 +137,17 @@ module _ (t : List ℕ) (q : Queue) (r : RowCall) where
     with_table : (t' : List ℕ) → t' ≡ (outcome_of t q r).after.table → RowCalled t q r a t' q'
     with_table t' e = record { reply = h.reply; table = e; queue = h.queue }
 
-    pub done_yes : (v : ℕ) → a ≡ RowAnswer.Done v → first_no (code_questions t q r) ≡ 0
+    pub done_yes : (v : ℕ) → a ≡ Ok v → first_no (code_questions t q r) ≡ 0
     done_yes v e = go (first_no (code_questions t q r)) refl
       where
         go : (m : ℕ) → first_no (code_questions t q r) ≡ m → first_no (code_questions t q r) ≡ 0
         go zero d = d
         go (suc m) d = absurd (done_or_refused v (suc m) (sym (ap row_reply e) ∙ h.reply ∙ ap (λ (x : Outcome). x.reply) (outcome_refused m d)))
 
-    pub done_called : (v : ℕ) (t' : List ℕ) → reads_nil r ≡ false → a ≡ RowAnswer.Done v → t' ≡ named_fitting (written t r) (packet_of t r) → RowCalled t q r a t' q'
+    pub done_called : (v : ℕ) (t' : List ℕ) → reads_nil r ≡ false → a ≡ Ok v → t' ≡ named_fitting (written t r) (packet_of t r) → RowCalled t q r a t' q'
     done_called v t' n e w = with_table t' (w ∙ sym (ap (λ (x : Outcome). x.after.table) (outcome_done (done_yes v e) ∙ code_queued n)))
 
-    pub refused_called : (f : Refusal) → a ≡ RowAnswer.Refused f → RowCalled t q r a t q'
+    pub refused_called : (f : Refusal) → a ≡ Err f → RowCalled t q r a t q'
     unfolding code_accepted
     refused_called f e = go (first_no (code_questions t q r)) refl
       where
@@ -168,10 +170,10 @@ module _ (t : List ℕ) (q : Queue) (p : Packet) (asked : Asked) (late : asked_n
       late_first (first_no (code_questions t q r)) (first_no (early (store t q []) (row r))) (first_no (code_late t q (packet_of t r))) asked (questions_split t q r y.queues)
       y.early (late ∙ ap (λ (s : Packet). first_no (code_late t q s)) y.packet)
 
-  pub queued_refused : (v : ℕ) (f : Refusal) (a : RowAnswer) (q' : Queue) → asked ≡ Asked.No f → a ≡ answer_of asked v → q' ≡ q → Queued t q p a q'
+  pub queued_refused : (v : ℕ) (f : Refusal) (a : RowAnswer) (q' : Queue) → asked ≡ Err f → a ≡ result_and asked (Ok v) → q' ≡ q → Queued t q p a q'
   queued_refused v f a q' said h k r y = rw (h, said) (asked_refused t q r f q' (asked_no (whole r y) said) k)
 
-  pub queued_done : (v : ℕ) (a : RowAnswer) (q' : Queue) → asked ≡ Asked.Yes → a ≡ answer_of asked v → v ≡ value_by (kind_of p.kind) p.b p.c
+  pub queued_done : (v : ℕ) (a : RowAnswer) (q' : Queue) → asked ≡ Ok tt → a ≡ result_and asked (Ok v) → v ≡ value_by (kind_of p.kind) p.b p.c
       → q' ≡ appended q p → Queued t q p a q'
   queued_done v a q' said h d c r y =
       rw (h, said) (asked_done t q r v q' y.queues (sym (asked_yes (whole r y) said))

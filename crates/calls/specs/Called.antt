@@ -1,10 +1,10 @@
 -- What a row call and a fresh give, for any table, queue and numbers: refused with nothing changed, or done as the machine does it, in name counts of
 -- 16 bits.
-use Rattle.std.specs.Prelude.{◌≡◌, true, false, List, [], ◌∷◌, ℕ}
+use Rattle.std.specs.Prelude.{Ok, Err, ◌≡◌, true, false, List, [], ◌∷◌, ℕ}
 use Rattle.machine.specs.declared.Queue.{Queue}
-use Rattle.machine.specs.declared.Asked.{Asked}
-use Rattle.machine.specs.declared.RowAnswer.{RowAnswer}
-use Rattle.machine.specs.declared.FreshAnswer.{FreshAnswer}
+use Rattle.machine.specs.Answers.{Asked}
+use Rattle.machine.specs.Answers.{RowAnswer}
+use Rattle.machine.specs.Answers.{FreshAnswer}
 use Rattle.machine.specs.Queue.{Packet, appended_all}
 use Rattle.machine.specs.Packets.{plus, names, name_changes}
 use Rattle.machine.specs.Calls.{RowCall, row, fresh, value, store, packet_of, packets_of, reads_nil, written, value_of}
@@ -20,11 +20,6 @@ pub record EarlyYes (t : List ℕ) (q : Queue) (r : RowCall) (p : Packet) : Type
   pub queues : reads_nil r ≡ false
   pub early : first_no (early (store t q []) (row r)) ≡ 0
   pub packet : p ≡ packet_of t r
-
--- the answer of a call whose questions said this, and whose value is v
-abbrev pub answer_of : Asked → ℕ → RowAnswer
-answer_of Asked.Yes v = RowAnswer.Done v
-answer_of (Asked.No f) v = RowAnswer.Refused f
 
 -- packets queued in their order, their cells named in counters of 16 bits
 abbrev pub fitted_all : List ℕ → List Packet → List ℕ

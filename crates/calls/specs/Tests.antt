@@ -2,12 +2,12 @@
 -- paper's do: the first free end is 0 exactly where no cell is free; counts with their waiting changes are the holds and pointers, and only the cells
 -- that a packet raises can pass the ceiling. Question 6 is the paper's own, asked only of the operands.
 use Rattle.std.specs.Prelude.{◌≡◌, Bool, cond, not, ◌&&◌, ◌||◌, List, [], ◌∷◌, ◌++◌, ℕ, suc, pred, ◌+◌, leb, eqb}
-use Rattle.machine.specs.declared.Asked.{Asked}
+use Rattle.machine.specs.Answers.{Asked}
 use Rattle.machine.specs.declared.Queue.{Queue}
 use Rattle.machine.specs.Range.{every_of}
 use Rattle.machine.specs.Words.{is_cell, ceiling}
 use Rattle.machine.specs.Table.{capacity, first_free, word_at}
-use Rattle.machine.specs.Queue.{Packet, queue_of, waiting}
+use Rattle.machine.specs.Queue.{Packet, waiting}
 use Rattle.machine.specs.Packets.{Kind, reads, makes, replaces, raises, lowers, unknown, kind_of, Counter, root, cell, plus, minus, Change, changes, same_counter, same_direction, moved_by, waiting_change}
 use Rattle.machine.specs.Calls.{RowCall, row, store, packet_of, reads_nil}
 use Rattle.machine.specs.Step.{counter_word}
@@ -46,9 +46,9 @@ code_late t q p =
     ∷ free_by_end (kind_of p.kind) t
     ++ (ask 9 (raised_within root t (waiting q) p) ∷ ask 10 (raised_within cell t (waiting q) p) ∷ [])
 
--- the answer r to them, asked of a queue whose arrays kinds, a and b are lent, whatever its words c
-abbrev pub LateAnswer : List ℕ → List ℕ → List ℕ → List ℕ → ℕ → ℕ → Packet → Asked → Type 0
-LateAnswer t kinds a b place count p r = (c : List ℕ) → asked_number r ≡ first_no (code_late t (queue_of kinds a b c place count) p)
+-- the answer r to them
+abbrev pub LateAnswer : List ℕ → Queue → Packet → Asked → Type 0
+LateAnswer t q p r = asked_number r ≡ first_no (code_late t q p)
 
 -- of a read of nil none of them
 unfoldable pub code_late_row : List ℕ → Queue → RowCall → List Question

@@ -12,19 +12,19 @@ mod packets;
 mod tests;
 mod writes;
 
-ghost use Rattle.std.specs.Prelude.{◌≡◌};
+ghost use Rattle.std.specs.Prelude.{◌≡◌, Err};
 ghost use Rattle.machine.specs.Calls.{car, cdr, cons, set_left, set_right, up, down};
 ghost use Rattle.machine.specs.Facts.{Shape};
 ghost use Rattle.machine.specs.Answers.{call_of};
 ghost use Rattle.queue.specs.Sums.{packet_of};
 ghost use Rattle.calls.specs.Packets.{Operands};
-ghost use Rattle.calls.specs.Called.{EarlyYes, answer_of, Queued, NilRead, RowCalled, FreshCalled};
+ghost use Rattle.calls.specs.Called.{EarlyYes, Queued, NilRead, RowCalled, FreshCalled};
 
 use chain::make_chain;
 use counts::names::name_packet;
 use early::early_asked;
 use late::late_asked;
-use machine::{Asked, FreshAnswer, Queue, Refusal, RowAnswer, RowCall};
+use machine::{FreshAnswer, Queue, Refusal, RowAnswer, RowCall};
 use packets::{packet_of, value_of};
 use queue::Packet;
 use writes::write;
@@ -49,40 +49,30 @@ pub fn fresh(table: &mut [u16], queue: Queue, c: u16) -> FreshReply
 {
     if !questions::cells_in_range(c) {
         return FreshReply {
-            answer: FreshAnswer::Refused(Refusal::NumberOutOfRange),
+            answer: Err(Refusal::NumberOutOfRange),
             queue: queue,
         };
     }
     if !questions::long_enough(c, table) {
         return FreshReply {
-            answer: FreshAnswer::Refused(Refusal::StoreOutOfRange),
+            answer: Err(Refusal::StoreOutOfRange),
             queue: queue,
         };
     }
     make_chain(table, c);
     FreshReply {
-        answer: FreshAnswer::Done,
+        answer: Ok(()),
         queue: Queue::empty(),
     }
 }
 
 // A question said "no": the queue goes back as it came.
 fn refused(queue: Queue, refusal: Refusal) -> RowReply
-    ensures { (result.answer ≡ RowAnswer.Refused refusal) × (result.queue ≡ queue) }
+    ensures { (result.answer ≡ Err refusal) × (result.queue ≡ queue) }
 {
     RowReply {
-        answer: RowAnswer::Refused(refusal),
+        answer: Err(refusal),
         queue: queue,
-    }
-}
-
-// What the late questions say: the value, or the refusal.
-fn answer_of(asked: Asked, value: u16) -> RowAnswer
-    ensures { result ≡ answer_of asked value }
-{
-    match asked {
-        Asked::Yes => RowAnswer::Done(value),
-        Asked::No(refusal) => RowAnswer::Refused(refusal),
     }
 }
 
@@ -94,8 +84,8 @@ fn queued(table: &[u16], queue: Queue, packet: Packet) -> RowReply
     let mut next = queue;
     let place = next.place;
     let count = next.count;
-    let asked = late_asked(table, &next.kinds, &next.a, &next.b, place, count, packet);
-    if let Asked::Yes = asked {
+    let asked = late_asked(table, &next, packet);
+    if let Ok(()) = asked {
         let j = queue::slot_after(place, count);
         next.kinds[j] = packet.kind;
         next.a[j] = packet.a;
@@ -103,7 +93,8 @@ fn queued(table: &[u16], queue: Queue, packet: Packet) -> RowReply
         next.c[j] = packet.c;
         next.count = count + 1;
     }
-    let answer = answer_of(asked, value_of(packet));
+    let value = value_of(packet);
+    let answer = asked.and(Ok(value));
     RowReply {
         answer: answer,
         queue: next,
@@ -114,9 +105,9 @@ fn queued(table: &[u16], queue: Queue, packet: Packet) -> RowReply
 fn nil_read(table: &[u16], queue: Queue) -> RowReply
     ensures { NilRead table.now queue result.answer result.queue }
 {
-    if questions::in_range(table, queue.place, queue.count) {
+    if questions::in_range(table, &queue) {
         return RowReply {
-            answer: RowAnswer::Done(0),
+            answer: Ok(0),
             queue: queue,
         };
     }
@@ -130,7 +121,7 @@ fn queue_and_write(table: &mut [u16], queue: Queue, call: RowCall, packet: Packe
 {
     let reply = queued(table, queue, packet);
     let answer = reply.answer;
-    if let RowAnswer::Done(_) = answer {
+    if let Ok(_) = answer {
         write(table, call);
         name_packet(table, packet.kind, packet.a, packet.b, packet.c);
     }
@@ -144,10 +135,10 @@ pub fn row(table: &mut [u16], queue: Queue, call: RowCall) -> RowReply
     if questions::reads_nil(call) {
         return nil_read(table, queue);
     }
-    let asked = early_asked(table, queue.place, queue.count, call);
+    let asked = early_asked(table, &queue, call);
     match asked {
-        Asked::No(refusal) => refused(queue, refusal),
-        Asked::Yes => {
+        Err(refusal) => refused(queue, refusal),
+        Ok(()) => {
             let packet = packet_of(table, call);
             queue_and_write(table, queue, call, packet)
         }

@@ -8,6 +8,13 @@ use lib.Seq.{get_or-take, get_or-drop}
 use borrow.Rule.Slice.PartMut.{mid_of, put_mid, set_mid_at}
 use Rattle.cells.specs.Part.{word_in, put_word_in}
 use Rattle.machine.specs.Table.{header, stride, table_length, position, word_at, put_word}
+use Rattle.machine.specs.Packets.{Counter, root, cell, name}
+use Rattle.machine.specs.Step.{counter_word}
+
+pub counter_in_cell : (k : Counter) → counter_word k < stride
+counter_in_cell root = omega arith
+counter_in_cell cell = omega arith
+counter_in_cell name = omega arith
 
 pub read_part : (t : List ℕ) (i k r : ℕ) → table_length (suc i) ≤ length t → k < stride → r ≡ word_in (take (length t - header) (drop header t)) i k → r ≡ word_at t i k
 unfolding word_at position

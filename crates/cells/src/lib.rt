@@ -6,8 +6,9 @@ mod part;
 
 ghost use Rattle.std.specs.Prelude.{◌≡◌, suc, ◌≤◌, length, set};
 ghost use Rattle.machine.specs.Table.{header, right, root_count, cell_count, state, name_count, new_cell, free_cell, capacity, first_free, last_free, table_length, scratch_words, word_at, put_word, put_ends, put_cell, in_use};
+ghost use Rattle.machine.specs.Step.{counter_word};
 
-use machine::{CellCount, NameCount, RootCount};
+use machine::{CellCount, Counter, NameCount, RootCount};
 
 // Words in front of the cells, and words of a cell.
 const HEADER: usize = 3;
@@ -21,17 +22,18 @@ pub const MOST_WORDS: usize = HEADER + STRIDE * (machine::MOST_CELLS as usize);
 pub fn words_for(c: u16) -> usize
     ensures { result ≡ table_length c }
 {
-    HEADER + STRIDE * (c as usize)
+    HEADER + STRIDE * usize::from(c)
 }
 
 // The words of scratch that a step or an audit of a table of the most cells needs.
 pub const MOST_SCRATCH: usize = machine::MOST_CELLS as usize;
 
 // How many words of scratch a table of c cells needs.
+#[tactic(auto, unfolding(machine::specs::Table::scratch_words))]
 pub fn scratch_for(c: u16) -> usize
     ensures { result ≡ scratch_words c }
 {
-    c as usize
+    usize::from(c)
 }
 
 // The words of a cell.
@@ -39,13 +41,7 @@ pub const LEFT: usize = 0;
 
 pub const RIGHT: usize = 1;
 
-const ROOT_COUNT: usize = 2;
-
-const CELL_COUNT: usize = 3;
-
 const STATE: usize = 4;
-
-const NAME_COUNT: usize = 5;
 
 // States: a free cell's, and a new cell's.
 const FREE: u16 = 0;
@@ -67,32 +63,47 @@ pub fn set_field(table: &mut [u16], index: usize, k: usize, v: u16)
     part::set_field(&mut table[HEADER..], index, k, v);
 }
 
+// A counter of a cell, of the sort that K is.
+pub fn count<K: Counter>(table: &[u16], index: usize) -> K
+    requires { table_length (suc index) ≤ length table.now }
+    ensures { K.value result ≡ word_at table.now index (counter_word K.sort) }
+{
+    part::count(&table[HEADER..], index)
+}
+
+pub fn set_count<K: Counter>(table: &mut [u16], index: usize, n: K)
+    requires { table_length (suc index) ≤ length table.old }
+    ensures { table.new ≡ put_word table.old index (counter_word K.sort) (K.value n) }
+{
+    part::set_count(&mut table[HEADER..], index, n);
+}
+
 pub fn root_count(table: &[u16], index: usize) -> RootCount
     requires { table_length (suc index) ≤ length table.now }
     ensures { result.0 ≡ word_at table.now index root_count }
 {
-    part::root_count(&table[HEADER..], index)
+    count(table, index)
 }
 
 pub fn set_root_count(table: &mut [u16], index: usize, n: RootCount)
     requires { table_length (suc index) ≤ length table.old }
     ensures { table.new ≡ put_word table.old index root_count n.0 }
 {
-    part::set_root_count(&mut table[HEADER..], index, n);
+    set_count(table, index, n);
 }
 
 pub fn cell_count(table: &[u16], index: usize) -> CellCount
     requires { table_length (suc index) ≤ length table.now }
     ensures { result.0 ≡ word_at table.now index cell_count }
 {
-    part::cell_count(&table[HEADER..], index)
+    count(table, index)
 }
 
 pub fn set_cell_count(table: &mut [u16], index: usize, n: CellCount)
     requires { table_length (suc index) ≤ length table.old }
     ensures { table.new ≡ put_word table.old index cell_count n.0 }
 {
-    part::set_cell_count(&mut table[HEADER..], index, n);
+    set_count(table, index, n);
 }
 
 // The state's word itself; `in_use` asks only whether it is above 0.
@@ -114,16 +125,17 @@ pub fn name_count(table: &[u16], index: usize) -> NameCount
     requires { table_length (suc index) ≤ length table.now }
     ensures { result.0 ≡ word_at table.now index name_count }
 {
-    part::name_count(&table[HEADER..], index)
+    count(table, index)
 }
 
 pub fn set_name_count(table: &mut [u16], index: usize, n: NameCount)
     requires { table_length (suc index) ≤ length table.old }
     ensures { table.new ≡ put_word table.old index name_count n.0 }
 {
-    part::set_name_count(&mut table[HEADER..], index, n);
+    set_count(table, index, n);
 }
 
+#[tactic(auto, unfolding(machine::specs::Table::in_use))]
 pub fn in_use(table: &[u16], index: usize) -> bool
     requires { table_length (suc index) ≤ length table.now }
     ensures { result ≡ in_use table.now index }
@@ -132,32 +144,35 @@ pub fn in_use(table: &[u16], index: usize) -> bool
 }
 
 // A free cell: its left is the next free cell or 0, its other words are 0.
+#[tactic(auto, unfolding(machine::specs::Table::put_cell, machine::specs::Table::put_words))]
 pub fn set_free(table: &mut [u16], index: usize, next: u16)
     requires { table_length (suc index) ≤ length table.old }
     ensures { table.new ≡ put_cell table.old index (free_cell next) }
 {
     set_field(table, index, LEFT, next);
     set_field(table, index, RIGHT, 0);
-    set_root_count(table, index, RootCount(0));
-    set_cell_count(table, index, CellCount(0));
+    set_count(table, index, RootCount(0));
+    set_count(table, index, CellCount(0));
     set_state(table, index, FREE);
-    set_name_count(table, index, NameCount(0));
+    set_count(table, index, NameCount(0));
 }
 
 // A new cell: both operands, root count 1, cell count 0; no packet names it yet.
+#[tactic(auto, unfolding(machine::specs::Table::put_cell, machine::specs::Table::put_words))]
 pub fn set_new(table: &mut [u16], index: usize, x: u16, y: u16)
     requires { table_length (suc index) ≤ length table.old }
     ensures { table.new ≡ put_cell table.old index (new_cell x y) }
 {
     set_field(table, index, LEFT, x);
     set_field(table, index, RIGHT, y);
-    set_root_count(table, index, RootCount(1));
-    set_cell_count(table, index, CellCount(0));
+    set_count(table, index, RootCount(1));
+    set_count(table, index, CellCount(0));
     set_state(table, index, USED);
-    set_name_count(table, index, NameCount(0));
+    set_count(table, index, NameCount(0));
 }
 
 // The header: C, the first free cell, the last free cell.
+#[tactic(auto, unfolding(machine::specs::Table::capacity))]
 pub fn capacity_of(table: &[u16]) -> u16
     requires { header ≤ length table.now }
     ensures { result ≡ capacity table.now }
@@ -165,6 +180,7 @@ pub fn capacity_of(table: &[u16]) -> u16
     table[0]
 }
 
+#[tactic(auto, unfolding(machine::specs::Table::first_free))]
 pub fn first_free(table: &[u16]) -> u16
     requires { header ≤ length table.now }
     ensures { result ≡ first_free table.now }
@@ -172,6 +188,7 @@ pub fn first_free(table: &[u16]) -> u16
     table[1]
 }
 
+#[tactic(auto, unfolding(machine::specs::Table::last_free))]
 pub fn last_free(table: &[u16]) -> u16
     requires { header ≤ length table.now }
     ensures { result ≡ last_free table.now }
@@ -186,6 +203,7 @@ pub fn set_capacity(table: &mut [u16], c: u16)
     table[0] = c;
 }
 
+#[tactic(auto, unfolding(machine::specs::Table::put_ends))]
 pub fn set_ends(table: &mut [u16], first: u16, last: u16)
     requires { header ≤ length table.old }
     ensures { table.new ≡ put_ends table.old first last }

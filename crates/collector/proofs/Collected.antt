@@ -1,11 +1,10 @@
 -- Which cells are freed: those that mark and sweep find, or those that hang on the watched cell.
-use mathlib.Core.Path.{◌≡◌, sym, ap, ◌∙◌}
+use mathlib.Core.Path.{◌≡◌, ap, ◌∙◌}
 use mathlib.Core.Bool.{Bool, not, ◌&&◌, and_comm}
 use mathlib.Core.List.{List, [], ◌∷◌}
-use Prim.Native.Nat.{ℕ, zero, suc, ◌≤◌, ◌<◌}
+use Prim.Native.Nat.{ℕ, zero, suc, ◌<◌}
 use native.Mathlib.Omega.{arith}
-use lib.ListN.{length, get_or, take}
-use lib.Seq.{length-take-le, get_or-take}
+use lib.ListN.{length, get_or}
 use Rattle.machine.specs.Range.{select}
 use Rattle.machine.specs.Table.{capacity, scratch_words, in_use}
 use Rattle.machine.specs.Reached.{reached}
@@ -16,8 +15,6 @@ use Rattle.machine.proofs.Lists.{Indices}
 use Rattle.machine.proofs.Scratch.{cleared_same}
 use Rattle.machine.proofs.Select.{select_indices, select_ascending, select_same}
 use Rattle.marks.specs.Marks.{Marks}
-use Rattle.walks.specs.Walk.{most_walked}
-use Rattle.suspects.specs.Dead.{Finds}
 use Rattle.collector.specs.FreedCells.{Listed}
 use Rattle.collector.specs.SweepPass.{is_dead, Sweeps}
 use Rattle.collector.specs.Steps.{Frees}
@@ -55,23 +52,15 @@ index_at c [] h i l = elim l [ ]
 index_at c (j ∷ is) h zero l = h.0
 index_at c (j ∷ is) h (suc i) l = index_at c is h.1 i (omega arith)
 
--- the first n words of the list are what the local way tells
-module _ (t : List ℕ) (w : ℕ) (dead : List ℕ) (n : ℕ) (f : Finds t w dead n) (few : n ≤ most_walked) where
-  front : length (take n dead) ≡ n
-  front = length-take-le n dead (omega (arith, f.size))
+-- the list is what the local way tells
+module _ (t : List ℕ) (w : ℕ) (dead : List ℕ) (f : dead ≡ local_dead t w) where
+  pub listed : Listed (capacity t) dead
+  listed = rw f (record { below = index_at (capacity t) (local_dead t w) (local_indices t w); ascending = local_ascending t w })
 
-  pub listed : Listed (capacity t) dead n
-  listed = record {
-    size = f.size;
-    few = few;
-    below = λ i l. rw (get_or-take n dead i 0 l) at (index_at (capacity t) (take n dead) (rw (f.found few) (local_indices t w)) i (omega (arith, front)));
-    ascending = rw (f.found few) (local_ascending t w);
-  }
-
-  pub frees_found : (c : ℕ) → c ≡ capacity t → (s t' s' : List ℕ) → t' ≡ swept t (take n dead) → s' ≡ cleared (scratch_words c) s
-      → Frees t (local_dead t w) s t' s' n
-  frees_found c e s t' s' g k = record {
-    table = g ∙ ap (swept t) (f.found few);
-    number = sym front ∙ ap length (f.found few);
+  pub frees_found : (c : ℕ) → c ≡ capacity t → (s t' s' : List ℕ) → t' ≡ swept t dead → s' ≡ cleared (scratch_words c) s
+      → (n : ℕ) → n ≡ length dead → Frees t (local_dead t w) s t' s' n
+  frees_found c e s t' s' g k n m = record {
+    table = g ∙ ap (swept t) f;
+    number = m ∙ ap length f;
     scratch = k ∙ ap (λ (m : ℕ). cleared (scratch_words m) s) e;
   }

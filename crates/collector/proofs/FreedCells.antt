@@ -8,7 +8,7 @@ use native.Mathlib.Omega.{arith}
 use native.Mathlib.Numerals.{add-one}
 use lib.Dec.{eqb}
 use lib.ListN.{length, get_or, take, drop}
-use lib.Seq.{length-take-le, take-suc, split_at, get_or-take, take-take}
+use lib.Seq.{take-suc, split_at, take_all}
 use borrow.Author.Tests.{eq-eqb, ne_eqb}
 use Rattle.machine.specs.Table.{left, right, free_cell, capacity, first_free, last_free, word_at, put_ends, put_cell}
 use Rattle.machine.specs.Packets.{cell, minus, contains}
@@ -93,35 +93,33 @@ module _ (t : List ℕ) (i : ℕ) (u : List ℕ) (e : u ≡ lower_pointers t (i 
   pub free_is : (v : List ℕ) → v ≡ join u i → v ≡ swept t (i ∷ [])
   free_is v f = f ∙ rw e (unfold swept join_all in refl)
 
--- The list of cells: the first n are to be freed, of which the first i remain.
-pub record Remaining (c : ℕ) (t dead : List ℕ) (n i : ℕ) (u : List ℕ) : Type 0 where
+-- Of the cells of the list, which are to be freed, the first i remain.
+pub record Remaining (c : ℕ) (t dead : List ℕ) (i : ℕ) (u : List ℕ) : Type 0 where
   pub good : Good c u
-  pub table : swept u (take i dead) ≡ swept t (take n dead)
+  pub table : swept u (take i dead) ≡ swept t dead
 
-pub all_remain : (t dead : List ℕ) (n : ℕ) → TableShape t → Remaining (capacity t) t dead n n t
-all_remain t dead n h = record { good = good t h; table = refl }
+pub all_remain : (t dead : List ℕ) (i : ℕ) → i ≡ length dead → TableShape t → Remaining (capacity t) t dead i t
+all_remain t dead i e h = record { good = good t h; table = ap (swept t) (take_all i dead (omega arith)) }
 
-module _ (c : ℕ) (t dead : List ℕ) (n : ℕ) (k : Listed c dead n) where
+module _ (c : ℕ) (t dead : List ℕ) (k : Listed c dead) where
   -- no cell is listed twice
-  once : (j : ℕ) → j < n → contains (take j dead) (get_or dead j 0) ≡ false
+  once : (j : ℕ) → j < length dead → contains (take j dead) (get_or dead j 0) ≡ false
   once j l = ⊎_elim (λ e. let b = lower_before (take j dead) (get_or dead j 0) _ front _ e in absurd (omega arith)) (λ e. e) (tested (contains (take j dead) (get_or dead j 0)))
     where
-      front : Ascending (take j dead ++ get_or dead j 0 ∷ drop (suc j) (take n dead))
-      front =
-          let h : j < length (take n dead) = omega (arith, length-take-le n dead (omega (arith, k.size, k.few))) in
-          rw (split_at (take n dead) j 0 h, take-take j n dead (omega arith), get_or-take n dead j 0 l) at k.ascending
+      front : Ascending (take j dead ++ get_or dead j 0 ∷ drop (suc j) dead)
+      front = rw (split_at dead j 0 l) at k.ascending
 
-  module _ (u : List ℕ) (i j : ℕ) (s : i ≡ suc j) (l : j < n) (r : Remaining c t dead n i u) where
+  module _ (u : List ℕ) (i j : ℕ) (s : i ≡ suc j) (l : j < length dead) (r : Remaining c t dead i u) where
     pub at_cell : TableShape u × (get_or dead j 0 < capacity u)
     at_cell = (r.good.shape, rw r.good.cells (k.below j l))
 
-    pub one_less : (v : List ℕ) → v ≡ swept u (get_or dead j 0 ∷ []) → Remaining c t dead n j v
+    pub one_less : (v : List ℕ) → v ≡ swept u (get_or dead j 0 ∷ []) → Remaining c t dead j v
     one_less v e = record {
       good = rw e (free_good c u r.good (get_or dead j 0) (k.below j l));
       table =
           ap (λ (w : List ℕ). swept w (take j dead)) e ∙ sym (swept_last u (take j dead) (get_or dead j 0) r.good.shape.room at_cell.1 (once j l))
-          ∙ ap (swept u) (sym (take-suc dead j 0 (omega (arith, k.size, k.few)))) ∙ (rw s at r.table);
+          ∙ ap (swept u) (sym (take-suc dead j 0 l)) ∙ (rw s at r.table);
     }
 
-pub none_remain : (c : ℕ) (t dead : List ℕ) (n i : ℕ) (u : List ℕ) → Remaining c t dead n i u → i ≡ 0 → u ≡ swept t (take n dead)
-none_remain c t dead n i u r e = unfold swept join_all lower_pointers in (rw e at r.table)
+pub none_remain : (c : ℕ) (t dead : List ℕ) (i : ℕ) (u : List ℕ) → Remaining c t dead i u → i ≡ 0 → u ≡ swept t dead
+none_remain c t dead i u r e = unfold swept join_all lower_pointers in (rw e at r.table)

@@ -1,4 +1,6 @@
 -- The step's contract, from what its parts do.
+use Rattle.std.specs.Prelude.{Ok}
+use Rattle.machine.specs.declared.Step.{Step}
 use mathlib.Core.Path.{◌≡◌, refl, sym, ap, ◌∙◌}
 use mathlib.Core.Logic.{⊎_elim}
 use mathlib.Core.List.{List, ◌∷◌}
@@ -7,7 +9,7 @@ use native.Mathlib.Omega.{arith}
 use lib.ListN.{length}
 use Rattle.machine.specs.declared.Queue.{Queue}
 use Rattle.machine.specs.declared.Refusal.{Refusal}
-use Rattle.machine.specs.declared.StepAnswer.{StepAnswer}
+use Rattle.machine.specs.Answers.{StepAnswer}
 use Rattle.machine.specs.Table.{capacity, scratch_words}
 use Rattle.machine.specs.Queue.{Packet, packets_from, waiting, taken}
 use Rattle.machine.specs.Packets.{minus, changes}
@@ -110,7 +112,7 @@ module _ (t : List ℕ) (q : Queue) (s : List ℕ) where
   frees : asks ≡ 0 → 0 < q.count → (dead : List ℕ) → Indices (capacity (apply_packet_fitting t (oldest q))) dead
       → (Premises t q → dead ≡ unreached (apply_packet_fitting t (oldest q)))
       → (r : Stepped) (t' s' : List ℕ) (n : ℕ) → Frees (apply_packet_fitting t (oldest q)) dead s t' s' n
-      → r.answer ≡ StepAnswer.Applied (oldest q).kind n → r.queue ≡ taken q → Steps t q s r t' s'
+      → r.answer ≡ Ok (Step.Applied (oldest q).kind n) → r.queue ≡ taken q → Steps t q s r t' s'
   frees a some dead l d r t' s' n p e f = record {
     asked = λ m g. absurd (omega arith);
     answered = λ m g d. let x : ◌≡◌ {A = ℕ} 0 1 = cc (ap step_reply e) in omega arith;
@@ -137,7 +139,7 @@ module _ (t : List ℕ) (q : Queue) (s : List ℕ) where
       scratch = p.scratch ∙ ap (λ (c : ℕ). cleared (scratch_words c) s) (framed_applied t (oldest q)).same_capacity
 
   pub applies : asks ≡ 0 → 0 < q.count → (r : Stepped) (t' s' : List ℕ) (n : ℕ) → Applies t (oldest q) s t' s' n
-      → r.answer ≡ StepAnswer.Applied (oldest q).kind n → r.queue ≡ taken q → Steps t q s r t' s'
+      → r.answer ≡ Ok (Step.Applied (oldest q).kind n) → r.queue ≡ taken q → Steps t q s r t' s'
   applies a some r t' s' n p e f =
       let u = apply_packet_fitting t (oldest q) in
       ⊎_elim (λ y. frees a some (unreached u) (unreached_indices u) (λ _. refl) r t' s' n y e f)

@@ -1,13 +1,13 @@
 // Cells freed by their indices, as the machine's sweep has it, from the last index down: the pointers out of a cell lower counts, then it joins the
 // free chain at its front. A join writes its own cell and the free ends alone, so that every other cell's fields are unchanged when its turn comes.
-ghost use Rattle.std.specs.Prelude.{◌≡◌, [], ◌∷◌, ◌<◌, take};
+ghost use Rattle.std.specs.Prelude.{◌≡◌, [], ◌∷◌, ◌<◌};
 ghost use Rattle.machine.specs.Table.{capacity};
 ghost use Rattle.machine.specs.Step.{lower_pointers, join, swept};
 ghost use Rattle.machine.specs.Facts.{TableShape};
 ghost use Rattle.collector.specs.FreedCells.{Listed};
 
-use counts::cell_down;
-use walks::MOST;
+use counts::down;
+use machine::CellCount;
 
 // A wiped cell joins the free chain at its front.
 fn prepend(table: &mut [u16], index: u16)
@@ -16,12 +16,12 @@ fn prepend(table: &mut [u16], index: u16)
 {
     let first = cells::first_free(table);
     let last = cells::last_free(table);
-    cells::set_free(table, index as usize, first);
+    cells::set_free(table, usize::from(index), first);
     if first == 0 {
         cells::set_ends(table, index + 1, index + 1);
-        return;
+    } else {
+        cells::set_ends(table, index + 1, last);
     }
-    cells::set_ends(table, index + 1, last);
 }
 
 // The counts of the cells in a cell's fields fall.
@@ -29,10 +29,11 @@ fn lower_pointers(table: &mut [u16], index: u16)
     requires { TableShape table.old × (index < capacity table.old) }
     ensures { table.new ≡ lower_pointers table.old (index ∷ []) }
 {
-    let left = cells::field(table, index as usize, cells::LEFT);
-    let right = cells::field(table, index as usize, cells::RIGHT);
-    cell_down(table, left, 1);
-    cell_down(table, right, 1);
+    let place = usize::from(index);
+    let left = cells::field(table, place, cells::LEFT);
+    let right = cells::field(table, place, cells::RIGHT);
+    down::<CellCount>(table, left, 1);
+    down::<CellCount>(table, right, 1);
 }
 
 // The cell at an index freed.
@@ -44,14 +45,12 @@ pub(crate) fn free(table: &mut [u16], index: u16)
     prepend(table, index);
 }
 
-// The first n cells of the list freed.
-pub(crate) fn free_all(table: &mut [u16], dead: &[u16; MOST], n: usize)
-    requires { TableShape table.old × Listed (capacity table.old) dead.now n }
-    ensures { table.new ≡ swept table.old (take n dead.now) }
+// The cells of the list freed.
+pub(crate) fn free_all(table: &mut [u16], dead: &[u16])
+    requires { TableShape table.old × Listed (capacity table.old) dead.now }
+    ensures { table.new ≡ swept table.old dead.now }
 {
-    let mut i = n;
-    while 0 < i {
-        i -= 1;
+    for i in (0..dead.len()).rev() {
         free(table, dead[i]);
     }
 }

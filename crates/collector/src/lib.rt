@@ -13,11 +13,10 @@ ghost use Rattle.queue.specs.Sums.{packet_of};
 ghost use Rattle.collector.specs.Steps.{Frees, Collects, Applies, Steps};
 
 use counts::names::unname_packet;
-use machine::{Asked, Queue, StepAnswer};
+use machine::{Queue, Step, StepAnswer};
 use marks::roots::{stays_root, watched_of};
 use queue::Packet;
 use suspects::dead_of;
-use walks::MOST;
 
 // A step's answer, and the queue afterwards.
 #[derive(Clone, Copy)]
@@ -44,14 +43,12 @@ fn collect_from(table: &mut [u16], watched: u16, scratch: &mut [u16]) -> u16
     ensures { Collects table.old watched scratch.old table.new scratch.new result }
 {
     let capacity = cells::capacity_of(table);
-    let mut dead = [0u16; MOST];
-    let n = dead_of(table, watched, &mut dead);
-    if MOST < n {
+    let Some(dead) = dead_of(table, watched) else {
         return collect(table, scratch);
-    }
-    freeing::free_all(table, &dead, n);
+    };
+    freeing::free_all(table, dead.as_slice());
     marks::clear(scratch, capacity);
-    n as u16
+    dead.len() as u16
 }
 
 // The oldest packet, which has left the queue, is applied and names its cells no longer: how many cells were freed. Where its watched word is no cell
@@ -75,12 +72,12 @@ fn apply_oldest(table: &mut [u16], oldest: Packet, scratch: &mut [u16]) -> u16
 pub fn step(table: &mut [u16], queue: Queue, scratch: &mut [u16]) -> Stepped
     ensures { Steps table.old queue scratch.old result table.new scratch.new }
 {
-    let asked = questions::lent(table, queue.place, queue.count, scratch);
+    let asked = questions::lent(table, &queue, scratch);
     let mut rest = queue;
-    let mut answer = StepAnswer::Idle;
+    let mut answer = Ok(Step::Idle);
     match asked {
-        Asked::No(refusal) => answer = StepAnswer::Refused(refusal),
-        Asked::Yes => {
+        Err(refusal) => answer = Err(refusal),
+        Ok(()) => {
             if 0 < rest.count {
                 let j = rest.place as usize;
                 let kind = rest.kinds[j];
@@ -94,7 +91,7 @@ pub fn step(table: &mut [u16], queue: Queue, scratch: &mut [u16]) -> Stepped
                 rest.place = (rest.place + 1) % Queue::SLOTS;
                 rest.count -= 1;
                 let freed = apply_oldest(table, Packet { kind, a, b, c }, scratch);
-                answer = StepAnswer::Applied { kind, freed };
+                answer = Ok(Step::Applied { kind, freed });
             }
         }
     }

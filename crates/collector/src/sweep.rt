@@ -11,14 +11,12 @@ fn sweep_cell(table: &mut [u16], scratch: &[u16], index: u16) -> u16
     requires { TableShape table.old × (index < capacity table.old) × (scratch_words (capacity table.old) ≤ length scratch.now) }
     ensures { Passes table.old scratch.now index table.new result }
 {
-    if marks::is_marked(scratch, index as usize) {
+    let place = usize::from(index);
+    if marks::is_marked(scratch, place) || !cells::in_use(table, place) {
         return 0;
     }
-    if cells::in_use(table, index as usize) {
-        free(table, index);
-        return 1;
-    }
-    0
+    free(table, index);
+    1
 }
 
 // How many cells were freed.
@@ -27,9 +25,7 @@ pub(crate) fn sweep(table: &mut [u16], scratch: &[u16]) -> u16
     ensures { Sweeps table.old scratch.now table.new result }
 {
     let mut freed: u16 = 0;
-    let mut i = cells::capacity_of(table);
-    while 0 < i {
-        i -= 1;
+    for i in (0..cells::capacity_of(table)).rev() {
         freed += sweep_cell(table, scratch, i);
     }
     freed

@@ -3,6 +3,7 @@ use mathlib.Core.Path.{◌≡◌, refl, sym, ap, ◌∙◌}
 use mathlib.Core.Logic.{⊎_elim}
 use mathlib.Core.Bool.{Bool, true, false, cond}
 use mathlib.Core.List.{List, [], ◌∷◌}
+use Rattle.std.specs.Prelude.{Some}
 use Prim.Native.Nat.{ℕ, pred, ◌+◌, ◌-◌, ◌<◌}
 use native.Mathlib.Omega.{arith}
 use lib.Dec.{leb}
@@ -10,13 +11,14 @@ use borrow.Author.Tests.{lt-leb}
 use Rattle.machine.specs.Counters.{Raised}
 use Rattle.machine.specs.Words.{is_cell}
 use Rattle.machine.specs.Table.{capacity, word_at, put_word}
-use Rattle.machine.specs.Packets.{Counter, Direction, plus, minus, Change, Kind, kind_of, changes_of}
+use Rattle.machine.specs.Packets.{Counter, Direction, plus, minus, Change}
 use Rattle.machine.specs.Step.{counter_word, shifted, move_count, apply_changes}
 use Rattle.machine.specs.Facts.{TableShape}
 use Rattle.machine.proofs.Range.{tested}
 use Rattle.machine.proofs.Table.{put_itself}
 use Rattle.machine.proofs.Moves.{length_move, capacity_move, first_free_move, last_free_move, past_move}
 use Rattle.machine.proofs.Kept.{Framed, framed_refl, framed_trans}
+use Rattle.counts.specs.Cells.{IndexOf}
 use Rattle.counts.specs.Changes.{too_large, move_fitting, apply_fitting, ChangesFit, Moves}
 
 either : {A : Type 0} (b : Bool) (x : A) → cond b x x ≡ x
@@ -63,25 +65,25 @@ moves_none t k w d n h = moves t k w d n t same
     same : t ≡ move_fitting t k w d n
     same = unfold move_fitting move_count in rw h (sym (either (too_large d (word_at t (pred w) (counter_word k)) n) t))
 
--- the counter of a cell, read and written at index i
-pub moves_lowered : (t : List ℕ) (k : Counter) (w n i v : ℕ) → is_cell (capacity t) w ≡ true → i ≡ w - 1 → v ≡ word_at t i (counter_word k) - n
+-- the counter of a cell, read and written at its index
+pub moves_lowered : (t : List ℕ) (k : Counter) (w n i v : ℕ) → IndexOf t w (Some i) → v ≡ word_at t i (counter_word k) - n
     → (t' : List ℕ) → t' ≡ put_word t i (counter_word k) v → Moves t k w minus n t'
-moves_lowered t k w n i v h e f t' g = moves t k w minus n t' (g ∙ same)
+moves_lowered t k w n i v h f t' g = moves t k w minus n t' (g ∙ same)
   where
     index : i ≡ pred w
-    index = omega arith
+    index = omega (arith, h.1)
 
     same : put_word t i (counter_word k) v ≡ move_fitting t k w minus n
-    same = unfold move_fitting move_count in rw (h, f, index)
+    same = unfold move_fitting move_count in rw (h.0, f, index)
 
-pub moves_raised : (t : List ℕ) (k : Counter) (w n i v : ℕ) → is_cell (capacity t) w ≡ true → i ≡ w - 1 → Raised (word_at t i (counter_word k)) n v
+pub moves_raised : (t : List ℕ) (k : Counter) (w n i v : ℕ) → IndexOf t w (Some i) → Raised (word_at t i (counter_word k)) n v
     → (t' : List ℕ) → t' ≡ put_word t i (counter_word k) v → Moves t k w plus n t'
-moves_raised t k w n i v h e f t' g =
+moves_raised t k w n i v h f t' g =
     moves t k w plus n t'
     (g ∙ ap (λ (j : ℕ). put_word t j (counter_word k) v) index ∙ ⊎_elim large small (tested (leb 65536 (word_at t (pred w) (counter_word k) + n))))
   where
     index : i ≡ pred w
-    index = omega arith
+    index = omega (arith, h.1)
 
     r : Raised (word_at t (pred w) (counter_word k)) n v
     r = rw index at f
@@ -90,7 +92,7 @@ moves_raised t k w n i v h e f t' g =
     large b = unfold move_fitting in rw (b, r.stays (borrow.Author.Tests.leb-true 65536 _ b)) (put_itself t (pred w) (counter_word k))
 
     small : leb 65536 (word_at t (pred w) (counter_word k) + n) ≡ false → put_word t (pred w) (counter_word k) v ≡ move_fitting t k w plus n
-    small b = unfold move_fitting move_count in rw (b, h, r.fits (borrow.Author.Tests.leb-false 65536 _ b))
+    small b = unfold move_fitting move_count in rw (b, h.0, r.fits (borrow.Author.Tests.leb-false 65536 _ b))
 
 -- a change that fits is made whole
 move_fits : (t : List ℕ) (k : Counter) (w : ℕ) (d : Direction) (n : ℕ)
@@ -121,10 +123,6 @@ pub made_more : (t u v : List ℕ) (h : Change) (hs : List Change) → Moves t h
     → v ≡ apply_fitting u hs → v ≡ apply_fitting t (h ∷ hs)
 unfolding apply_fitting
 made_more t u v h hs m e = e ∙ ap (λ (x : List ℕ). apply_fitting x hs) m.moved
-
-pub applied : (t t' : List ℕ) (kind a b : ℕ) (k : Kind) → kind_of kind ≡ k → t' ≡ apply_fitting t (changes_of k a b)
-    → t' ≡ apply_fitting t (changes_of (kind_of kind) a b)
-applied t t' kind a b k e h = rw e h
 
 -- on any table: its length, C and the words past its cells stand
 framed_move : (t : List ℕ) (k : Counter) (w : ℕ) (d : Direction) (n : ℕ) → Framed t (move_count t k w d n)

@@ -1,45 +1,14 @@
 -- Laws of the words that a packet names, and of naming them: nil has no counter.
 use mathlib.Core.Path.{◌≡◌, refl, sym, ap, ◌∙◌}
 use mathlib.Core.List.{List, [], ◌∷◌}
-use Prim.Native.Nat.{ℕ, zero, suc, ◌≤◌}
-use native.Mathlib.Omega.{arith}
+use Prim.Native.Nat.{ℕ}
 use Rattle.machine.specs.Words.{is_cell}
 use Rattle.machine.specs.Queue.{packet}
 use Rattle.machine.specs.Packets.{Kind, reads, makes, replaces, raises, lowers, unknown, kind_of, name, Direction, plus, minus, names_of, names, name_changes}
 use Rattle.machine.specs.Step.{move_count, apply_changes, named}
-use Rattle.queue.proofs.Totals.{kind_unknown}
 use Rattle.counts.specs.Changes.{move_fitting, apply_fitting, Moves, named_fitting}
 use Rattle.counts.specs.Names.{three_of}
 use Rattle.counts.proofs.Changes.{moves_none, made_none, made_more}
-
--- the three words by the kind's number
-pub three_all : (k a b c : ℕ) → 1 ≤ k → k ≤ 3 → a ∷ b ∷ c ∷ [] ≡ three_of (kind_of k) a b c
-unfolding three_of kind_of
-three_all zero a b c l h = absurd (omega arith)
-three_all (suc zero) a b c l h = refl
-three_all (suc (suc zero)) a b c l h = refl
-three_all (suc (suc (suc zero))) a b c l h = refl
-three_all (suc (suc (suc (suc k)))) a b c l h = absurd (omega arith)
-
-pub three_right : (k a b c : ℕ) → k ≡ 6 → a ∷ b ∷ c ∷ [] ≡ three_of (kind_of k) a b c
-unfolding three_of kind_of
-three_right k a b c e = rw e
-
-pub three_first : (k a b c : ℕ) → 4 ≤ k → k ≤ 5 → a ∷ 0 ∷ 0 ∷ [] ≡ three_of (kind_of k) a b c
-unfolding three_of kind_of
-three_first zero a b c l h = absurd (omega arith)
-three_first (suc zero) a b c l h = absurd (omega arith)
-three_first (suc (suc zero)) a b c l h = absurd (omega arith)
-three_first (suc (suc (suc zero))) a b c l h = absurd (omega arith)
-three_first (suc (suc (suc (suc zero)))) a b c l h = refl
-three_first (suc (suc (suc (suc (suc zero))))) a b c l h = refl
-three_first (suc (suc (suc (suc (suc (suc k)))))) a b c l h = absurd (omega arith)
-
-pub three_none : (k a b c : ℕ) → (1 ≤ k → k ≤ 6 → ⊥) → 0 ∷ 0 ∷ 0 ∷ [] ≡ three_of (kind_of k) a b c
-unfolding three_of
-three_none k a b c f =
-    rw (kind_unknown k (λ e. f (omega arith) (omega arith)) (λ e. f (omega arith) (omega arith)) (λ e. f (omega arith) (omega arith))
-    (λ e. f (omega arith) (omega arith)) (λ e. f (omega arith) (omega arith)) (λ e. f (omega arith) (omega arith)))
 
 nil_unnamed : (t : List ℕ) (d : Direction) → move_fitting t name 0 d 1 ≡ t
 nil_unnamed t d = sym (moves_none t name 0 d 1 (unfold is_cell in refl)).moved

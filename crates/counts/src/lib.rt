@@ -4,89 +4,78 @@
 pub mod names;
 
 ghost use Rattle.std.specs.Prelude.{◌≡◌, ◌≤◌, length};
-ghost use Rattle.machine.specs.Table.{capacity, table_length};
-ghost use Rattle.machine.specs.Packets.{root, cell, plus, minus, kind_of, changes_of};
+ghost use Rattle.machine.specs.Table.{header, capacity, table_length};
+ghost use Rattle.machine.specs.Packets.{plus, minus, kind_of, changes_of};
 ghost use Rattle.counts.specs.Changes.{Moves, apply_fitting};
+ghost use Rattle.counts.specs.Cells.{IndexOf};
 
+use machine::{CellCount, Counter, RootCount};
 use questions::is_cell;
-use queue::Packet;
+use queue::Kind;
 
-fn root_up(table: &mut [u16], w: u16, n: u16)
-    requires { table_length (capacity table.old) ≤ length table.old }
-    ensures { Moves table.old root w plus n table.new }
+// Where the cell that a word names stands in the table, if it names one.
+pub fn cell_index(table: &[u16], w: u16) -> Option<usize>
+    requires { header ≤ length table.now }
+    ensures { IndexOf table.now w result }
 {
     if is_cell(cells::capacity_of(table), w) {
-        let index = (w - 1) as usize;
-        let count = cells::root_count(table, index);
-        cells::set_root_count(table, index, count.raised(n));
+        Some(usize::from(w) - 1)
+    } else {
+        None
     }
 }
 
-fn root_down(table: &mut [u16], w: u16, n: u16)
+pub fn up<K: Counter>(table: &mut [u16], w: u16, n: u16)
     requires { table_length (capacity table.old) ≤ length table.old }
-    ensures { Moves table.old root w minus n table.new }
+    ensures { Moves table.old K.sort w plus n table.new }
 {
-    if is_cell(cells::capacity_of(table), w) {
-        let index = (w - 1) as usize;
-        let count = cells::root_count(table, index);
-        cells::set_root_count(table, index, count.lowered(n));
+    if let Some(index) = cell_index(table, w) {
+        let count: K = cells::count(table, index);
+        cells::set_count(table, index, count.raised(n));
     }
 }
 
-fn cell_up(table: &mut [u16], w: u16, n: u16)
+pub fn down<K: Counter>(table: &mut [u16], w: u16, n: u16)
     requires { table_length (capacity table.old) ≤ length table.old }
-    ensures { Moves table.old cell w plus n table.new }
+    ensures { Moves table.old K.sort w minus n table.new }
 {
-    if is_cell(cells::capacity_of(table), w) {
-        let index = (w - 1) as usize;
-        let count = cells::cell_count(table, index);
-        cells::set_cell_count(table, index, count.raised(n));
-    }
-}
-
-pub fn cell_down(table: &mut [u16], w: u16, n: u16)
-    requires { table_length (capacity table.old) ≤ length table.old }
-    ensures { Moves table.old cell w minus n table.new }
-{
-    if is_cell(cells::capacity_of(table), w) {
-        let index = (w - 1) as usize;
-        let count = cells::cell_count(table, index);
-        cells::set_cell_count(table, index, count.lowered(n));
+    if let Some(index) = cell_index(table, w) {
+        let count: K = cells::count(table, index);
+        cells::set_count(table, index, count.lowered(n));
     }
 }
 
 // The changes of a packet of this kind with the words a and b, in figure 8's order; its x is a, its y is b.
+#[tactic(auto, unfolding(machine::specs::Packets::changes_of, crate::specs::Changes::apply_fitting))]
 pub fn apply(table: &mut [u16], kind: u16, a: u16, b: u16)
     requires { table_length (capacity table.old) ≤ length table.old }
     ensures { table.new ≡ apply_fitting table.old (changes_of (kind_of kind) a b) }
 {
+    let Some(kind) = Kind::of(kind) else {
+        return;
+    };
     match kind {
         // P1
-        Packet::READ => {
-            root_down(table, a, 1);
-            root_up(table, b, 1);
+        Kind::Read => {
+            down::<RootCount>(table, a, 1);
+            up::<RootCount>(table, b, 1);
         }
         // P2
-        Packet::CONS => {
-            root_down(table, a, 1);
-            cell_up(table, a, 1);
-            root_down(table, b, 1);
-            cell_up(table, b, 1);
+        Kind::Cons => {
+            down::<RootCount>(table, a, 1);
+            up::<CellCount>(table, a, 1);
+            down::<RootCount>(table, b, 1);
+            up::<CellCount>(table, b, 1);
         }
         // P3: the detached cell comes last, and its cell count falls
-        Packet::REPLACE_LEFT | Packet::REPLACE_RIGHT => {
-            root_down(table, a, 1);
-            cell_up(table, a, 1);
-            cell_down(table, b, 1);
+        Kind::ReplaceLeft | Kind::ReplaceRight => {
+            down::<RootCount>(table, a, 1);
+            up::<CellCount>(table, a, 1);
+            down::<CellCount>(table, b, 1);
         }
         // P4
-        Packet::UP => {
-            root_up(table, a, b);
-        }
+        Kind::Up => up::<RootCount>(table, a, b),
         // P5
-        Packet::DOWN => {
-            root_down(table, a, b);
-        }
-        _ => {}
+        Kind::Down => down::<RootCount>(table, a, b),
     }
 }

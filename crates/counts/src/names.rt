@@ -2,35 +2,14 @@
 ghost use Rattle.std.specs.Prelude.{◌≡◌, [], ◌∷◌, ◌≤◌, length};
 ghost use Rattle.machine.specs.Table.{capacity, table_length};
 ghost use Rattle.machine.specs.Queue.{packet};
-ghost use Rattle.machine.specs.Packets.{kind_of, name, plus, minus};
+ghost use Rattle.machine.specs.Packets.{kind_of, minus};
 ghost use Rattle.machine.specs.Step.{named};
-ghost use Rattle.counts.specs.Changes.{Moves, named_fitting};
+ghost use Rattle.counts.specs.Changes.{named_fitting};
 ghost use Rattle.counts.specs.Names.{three_of};
 
-use questions::is_cell;
-use queue::Packet;
-
-fn name_up(table: &mut [u16], w: u16)
-    requires { table_length (capacity table.old) ≤ length table.old }
-    ensures { Moves table.old name w plus 1 table.new }
-{
-    if is_cell(cells::capacity_of(table), w) {
-        let index = (w - 1) as usize;
-        let count = cells::name_count(table, index);
-        cells::set_name_count(table, index, count.raised(1));
-    }
-}
-
-fn name_down(table: &mut [u16], w: u16)
-    requires { table_length (capacity table.old) ≤ length table.old }
-    ensures { Moves table.old name w minus 1 table.new }
-{
-    if is_cell(cells::capacity_of(table), w) {
-        let index = (w - 1) as usize;
-        let count = cells::name_count(table, index);
-        cells::set_name_count(table, index, count.lowered(1));
-    }
-}
+use crate::{down, up};
+use machine::NameCount;
+use queue::Kind;
 
 // The words that a packet names, nil in the place of those that it does not: kinds 4 and 5 name a only.
 #[derive(Clone, Copy)]
@@ -40,17 +19,20 @@ pub struct Names {
     pub z: u16,
 }
 
+#[tactic(auto, unfolding(crate::specs::Names::three_of))]
 pub fn names_of(kind: u16, a: u16, b: u16, c: u16) -> Names
     ensures { result.x ∷ result.y ∷ result.z ∷ [] ≡ three_of (kind_of kind) a b c }
 {
+    let Some(kind) = Kind::of(kind) else {
+        return Names { x: 0, y: 0, z: 0 };
+    };
     match kind {
-        Packet::READ | Packet::CONS | Packet::REPLACE_LEFT | Packet::REPLACE_RIGHT => Names {
+        Kind::Read | Kind::Cons | Kind::ReplaceLeft | Kind::ReplaceRight => Names {
             x: a,
             y: b,
             z: c,
         },
-        Packet::UP | Packet::DOWN => Names { x: a, y: 0, z: 0 },
-        _ => Names { x: 0, y: 0, z: 0 },
+        Kind::Up | Kind::Down => Names { x: a, y: 0, z: 0 },
     }
 }
 
@@ -60,9 +42,9 @@ pub fn name_packet(table: &mut [u16], kind: u16, a: u16, b: u16, c: u16)
     ensures { table.new ≡ named_fitting table.old (packet kind a b c) }
 {
     let names = names_of(kind, a, b, c);
-    name_up(table, names.x);
-    name_up(table, names.y);
-    name_up(table, names.z);
+    up::<NameCount>(table, names.x, 1);
+    up::<NameCount>(table, names.y, 1);
+    up::<NameCount>(table, names.z, 1);
 }
 
 // A packet is taken.
@@ -71,7 +53,7 @@ pub fn unname_packet(table: &mut [u16], kind: u16, a: u16, b: u16, c: u16)
     ensures { table.new ≡ named minus table.old (packet kind a b c) }
 {
     let names = names_of(kind, a, b, c);
-    name_down(table, names.x);
-    name_down(table, names.y);
-    name_down(table, names.z);
+    down::<NameCount>(table, names.x, 1);
+    down::<NameCount>(table, names.y, 1);
+    down::<NameCount>(table, names.z, 1);
 }

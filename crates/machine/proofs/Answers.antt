@@ -1,10 +1,11 @@
 -- Laws of answers: every refusal has a number, and what the answer to a call's questions says, by its case.
+use Rattle.std.specs.Prelude.{Ok, Err}
 use mathlib.Core.Path.{◌≡◌, sym, ap, ◌∙◌}
 use Prim.Native.Nat.{ℕ, ◌<◌}
 use native.Mathlib.Omega.{arith}
 use Rattle.machine.specs.declared.Refusal.{Refusal}
 use Rattle.machine.specs.declared.Refusal.TheVariants.{StoreOutOfRange, ScratchTooShort, NumberOutOfRange, IllegalWord, NotACell, NotHeld, QueueFull, NoFreeCell, HeldCountTooHigh, TooManyPointers, NotInNotation, TooDeep, BufferTooShort, ClippedReading, SeatOutOfRange}
-use Rattle.machine.specs.declared.Asked.{Asked}
+use Rattle.machine.specs.Answers.{Asked}
 use Rattle.machine.specs.Answers.{refusal_number, asked_number}
 
 pub refusal_some : (f : Refusal) → 0 < refusal_number f
@@ -24,8 +25,8 @@ refusal_some BufferTooShort = omega arith
 refusal_some ClippedReading = omega arith
 refusal_some SeatOutOfRange = omega arith
 
-pub asked_no : {r : Asked} {f : Refusal} {n : ℕ} → asked_number r ≡ n → r ≡ Asked.No f → refusal_number f ≡ n
+pub asked_no : {r : Asked} {f : Refusal} {n : ℕ} → asked_number r ≡ n → r ≡ Err f → refusal_number f ≡ n
 asked_no h e = sym (ap asked_number e) ∙ h
 
-pub asked_yes : {r : Asked} {n : ℕ} → asked_number r ≡ n → r ≡ Asked.Yes → 0 ≡ n
+pub asked_yes : {r : Asked} {n : ℕ} → asked_number r ≡ n → r ≡ Ok tt → 0 ≡ n
 asked_yes h e = sym (ap asked_number e) ∙ h

@@ -1,5 +1,6 @@
 -- The laws of the machine's definition, and the worked cases.
 pub mod Range
+pub mod Below
 pub mod Lists
 pub mod Scratch
 pub mod Words

@@ -1,4 +1,5 @@
 -- Laws of lists of questions: what the first "no" says, and what holds where there is none; question 1 as plain facts.
+use Rattle.std.specs.Prelude.{Ok, Err}
 use mathlib.Core.Path.{◌≡◌, refl, sym, ◌∙◌}
 use mathlib.Core.Logic.{⊎_elim}
 use mathlib.Core.Bool.{Bool, true, false, cond, ◌&&◌}
@@ -10,7 +11,7 @@ use lib.ListN.{length}
 use borrow.Author.Tests.{leb-true, le-leb, ltb-true, lt-ltb, eq-eqb}
 use Rattle.machine.specs.declared.Queue.{Queue}
 use Rattle.machine.specs.declared.Refusal.{Refusal}
-use Rattle.machine.specs.declared.Asked.{Asked}
+use Rattle.machine.specs.Answers.{Asked}
 use Rattle.machine.specs.Answers.{refusal_number, asked_number}
 use Rattle.machine.proofs.Answers.{asked_no, asked_yes}
 use Rattle.machine.specs.Words.{is_nil, most_cells}
@@ -151,10 +152,10 @@ module _ (t : List ℕ) (q : Queue) (s : List ℕ) where
   unfolding first_no early
   step_asked h e = rw (h, e)
 
-  pub says_yes : (x : Asked) → asked_number x ≡ first_no (early (store t q s) step) → x ≡ Asked.Yes → first_no (early (store t q s) step) ≡ 0
+  pub says_yes : (x : Asked) → asked_number x ≡ first_no (early (store t q s) step) → x ≡ Ok tt → first_no (early (store t q s) step) ≡ 0
   says_yes x e y = sym (asked_yes e y)
 
-  pub says_no : (x : Asked) (f : Refusal) → asked_number x ≡ first_no (early (store t q s) step) → x ≡ Asked.No f → refusal_number f ≡ first_no (early (store t q s) step)
+  pub says_no : (x : Asked) (f : Refusal) → asked_number x ≡ first_no (early (store t q s) step) → x ≡ Err f → refusal_number f ≡ first_no (early (store t q s) step)
   says_no x f e y = asked_no e y
 
   pub asked_lent : first_no (early (store t q s) step) ≡ 0 → Lent t q s

@@ -1,17 +1,32 @@
 -- For each enum of the code the paper's call, number or values.
-use Rattle.std.specs.Prelude.{◌≡◌, List, [], ℕ, length}
+use Rattle.std.specs.Prelude.{◌≡◌, List, [], ℕ, Result, Ok, Err, length}
 use Rattle.machine.specs.declared.Refusal.{Refusal}
 use Rattle.machine.specs.declared.Refusal.TheVariants.{StoreOutOfRange, ScratchTooShort, NumberOutOfRange, IllegalWord, NotACell, NotHeld, QueueFull, NoFreeCell, HeldCountTooHigh, TooManyPointers, NotInNotation, TooDeep, BufferTooShort, ClippedReading, SeatOutOfRange}
-use Rattle.machine.specs.declared.Asked.{Asked}
 use Rattle.machine.specs.declared.RowCall as declared
-use Rattle.machine.specs.declared.RowAnswer.{RowAnswer}
-use Rattle.machine.specs.declared.FreshAnswer.{FreshAnswer}
-use Rattle.machine.specs.declared.StepAnswer.{StepAnswer}
-use Rattle.machine.specs.declared.AuditAnswer.{AuditAnswer}
-use Rattle.machine.specs.declared.LengthAnswer.{LengthAnswer}
+use Rattle.machine.specs.declared.Step.{Step}
 use Rattle.machine.specs.declared.Rule.{Rule}
+use Rattle.machine.specs.declared.Finding.{Finding}
 use Rattle.machine.specs.Calls.{RowCall, car, cdr, cons, set_left, set_right, up, down}
 use Rattle.machine.specs.Calls.{Reply, value, refused, idle, applied, sound, broken, text}
+
+-- the answers' types, by the code's names
+abbrev pub Asked : Type 0
+Asked = Result (Unit {0}) Refusal
+
+abbrev pub RowAnswer : Type 0
+RowAnswer = Result ℕ Refusal
+
+abbrev pub FreshAnswer : Type 0
+FreshAnswer = Result (Unit {0}) Refusal
+
+abbrev pub StepAnswer : Type 0
+StepAnswer = Result Step Refusal
+
+abbrev pub AuditAnswer : Type 0
+AuditAnswer = Result Finding Refusal
+
+abbrev pub LengthAnswer : Type 0
+LengthAnswer = Result ℕ Refusal
 
 -- the question answered "no"
 abbrev pub refusal_number : Refusal → ℕ
@@ -33,8 +48,8 @@ refusal_number SeatOutOfRange = 15
 
 -- the first "no" of a call's questions, or 0
 abbrev pub asked_number : Asked → ℕ
-asked_number Asked.Yes = 0
-asked_number (Asked.No r) = refusal_number r
+asked_number (Ok _) = 0
+asked_number (Err r) = refusal_number r
 
 -- the rule broken
 abbrev pub rule_number : Rule → ℕ
@@ -55,27 +70,27 @@ call_of (declared.RowCall.Up x n) = up x n
 call_of (declared.RowCall.Down x n) = down x n
 
 abbrev pub row_reply : RowAnswer → Reply
-row_reply (RowAnswer.Done w) = value w
-row_reply (RowAnswer.Refused r) = refused (refusal_number r)
+row_reply (Ok w) = value w
+row_reply (Err r) = refused (refusal_number r)
 
 abbrev pub fresh_reply : FreshAnswer → Reply
-fresh_reply FreshAnswer.Done = value 0
-fresh_reply (FreshAnswer.Refused r) = refused (refusal_number r)
+fresh_reply (Ok _) = value 0
+fresh_reply (Err r) = refused (refusal_number r)
 
 abbrev pub step_reply : StepAnswer → Reply
-step_reply StepAnswer.Idle = idle
-step_reply (StepAnswer.Applied k n) = applied k n
-step_reply (StepAnswer.Refused r) = refused (refusal_number r)
+step_reply (Ok Step.Idle) = idle
+step_reply (Ok (Step.Applied k n)) = applied k n
+step_reply (Err r) = refused (refusal_number r)
 
 abbrev pub audit_answer_reply : AuditAnswer → Reply
-audit_answer_reply AuditAnswer.Sound = sound
-audit_answer_reply (AuditAnswer.Broken r) = broken (rule_number r)
-audit_answer_reply (AuditAnswer.Refused r) = refused (refusal_number r)
+audit_answer_reply (Ok Finding.Sound) = sound
+audit_answer_reply (Ok (Finding.Broken r)) = broken (rule_number r)
+audit_answer_reply (Err r) = refused (refusal_number r)
 
 -- writing a text: its length, or the refusal
 abbrev pub TellsLength : LengthAnswer → Reply → Type 0
-TellsLength (LengthAnswer.Length n) r = (bytes : List ℕ) × (r ≡ text bytes) × (n ≡ length bytes)
-TellsLength (LengthAnswer.Refused f) r = r ≡ refused (refusal_number f)
+TellsLength (Ok n) r = (bytes : List ℕ) × (r ≡ text bytes) × (n ≡ length bytes)
+TellsLength (Err f) r = r ≡ refused (refusal_number f)
 
 -- the part of the buffer that the reply to writing a text fills: of a refusal nothing
 abbrev pub filled_part : Reply → List ℕ

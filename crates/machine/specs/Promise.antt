@@ -6,7 +6,7 @@ use Rattle.machine.specs.Calls.{Call, fresh, row, step, audit, read, write, Repl
 use Rattle.machine.specs.Questions.{Question, first_no, early, late, text_pairs}
 use Rattle.machine.specs.Audit.{Sound}
 use Rattle.machine.specs.Machine.{machine}
-use Rattle.machine.specs.declared.LengthAnswer.{LengthAnswer}
+use Rattle.machine.specs.Answers.{LengthAnswer}
 use Rattle.machine.specs.Answers.{TellsLength, filled_part}
 
 -- Where the papers decide all that a call gives: fresh and the audit always, any other call on a sound store. On every store decided are an idle step and

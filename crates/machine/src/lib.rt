@@ -1,10 +1,13 @@
 // The store's declared types, in the forms that document 01 names. What the calls do is the definition in specs/.
 #![tactic(auto)]
 
-ghost use Rattle.std.specs.Prelude.{◌≡◌, ◌-◌};
-ghost use Rattle.machine.specs.Counters.{Raised};
+mod counters;
+
+ghost use Rattle.std.specs.Prelude.{◌≡◌};
 ghost use Rattle.machine.specs.Queue.{empty_queue};
 ghost use Rattle.machine.specs.Answers.{refusal_number, rule_number};
+
+pub use counters::{CellCount, Counter, Limited, NameCount, RootCount};
 
 // The largest C.
 pub const MOST_CELLS: u16 = 4096;
@@ -43,141 +46,39 @@ impl Queue {
     }
 }
 
-// How many pointers to a cell row programs hold.
-#[derive(Clone, Copy)]
-pub struct RootCount(pub u16);
-
-impl RootCount {
-    pub const CEILING: u16 = 4095;
-
-    pub fn raised(self, n: u16) -> RootCount
-        ensures { Raised self.0 n result.0 }
-    {
-        let count = self.0;
-        if n <= 65535 - count {
-            return RootCount(count + n);
-        }
-        RootCount(count)
-    }
-
-    pub fn lowered(self, n: u16) -> RootCount
-        ensures { result.0 ≡ self.0 - n }
-    {
-        let count = self.0;
-        if n <= count {
-            return RootCount(count - n);
-        }
-        RootCount(0)
-    }
-}
-
-// How many pointers to a cell stand in other cells.
-#[derive(Clone, Copy)]
-pub struct CellCount(pub u16);
-
-impl CellCount {
-    pub const CEILING: u16 = 4095;
-
-    pub fn raised(self, n: u16) -> CellCount
-        ensures { Raised self.0 n result.0 }
-    {
-        let count = self.0;
-        if n <= 65535 - count {
-            return CellCount(count + n);
-        }
-        CellCount(count)
-    }
-
-    pub fn lowered(self, n: u16) -> CellCount
-        ensures { result.0 ≡ self.0 - n }
-    {
-        let count = self.0;
-        if n <= count {
-            return CellCount(count - n);
-        }
-        CellCount(0)
-    }
-}
-
-// How many times waiting packets name a cell.
-#[derive(Clone, Copy)]
-pub struct NameCount(pub u16);
-
-impl NameCount {
-    pub fn raised(self, n: u16) -> NameCount
-        ensures { Raised self.0 n result.0 }
-    {
-        let count = self.0;
-        if n <= 65535 - count {
-            return NameCount(count + n);
-        }
-        NameCount(count)
-    }
-
-    pub fn lowered(self, n: u16) -> NameCount
-        ensures { result.0 ≡ self.0 - n }
-    {
-        let count = self.0;
-        if n <= count {
-            return NameCount(count - n);
-        }
-        NameCount(0)
-    }
-}
-
-// The questions, by what a "no" says; specs/Answers.antt gives the paper's number of each.
-#[derive(Clone, Copy)]
+// The questions, by what a "no" says, each with the paper's number.
+#[derive(Clone, Copy, PartialEq, Eq)]
 pub enum Refusal {
-    StoreOutOfRange,
-    ScratchTooShort,
-    NumberOutOfRange,
-    IllegalWord,
-    NotACell,
-    NotHeld,
-    QueueFull,
-    NoFreeCell,
-    HeldCountTooHigh,
-    TooManyPointers,
-    NotInNotation,
-    TooDeep,
-    BufferTooShort,
-    ClippedReading,
-    SeatOutOfRange,
+    StoreOutOfRange = 1,
+    ScratchTooShort = 2,
+    NumberOutOfRange = 3,
+    IllegalWord = 4,
+    NotACell = 5,
+    NotHeld = 6,
+    QueueFull = 7,
+    NoFreeCell = 8,
+    HeldCountTooHigh = 9,
+    TooManyPointers = 10,
+    NotInNotation = 11,
+    TooDeep = 12,
+    BufferTooShort = 13,
+    ClippedReading = 14,
+    SeatOutOfRange = 15,
 }
 
 impl Refusal {
     pub fn number(self) -> u16
         ensures { result ≡ refusal_number self }
     {
-        match self {
-            Refusal::StoreOutOfRange => 1,
-            Refusal::ScratchTooShort => 2,
-            Refusal::NumberOutOfRange => 3,
-            Refusal::IllegalWord => 4,
-            Refusal::NotACell => 5,
-            Refusal::NotHeld => 6,
-            Refusal::QueueFull => 7,
-            Refusal::NoFreeCell => 8,
-            Refusal::HeldCountTooHigh => 9,
-            Refusal::TooManyPointers => 10,
-            Refusal::NotInNotation => 11,
-            Refusal::TooDeep => 12,
-            Refusal::BufferTooShort => 13,
-            Refusal::ClippedReading => 14,
-            Refusal::SeatOutOfRange => 15,
-        }
+        self as u16
     }
 }
 
 // What a call's questions say: "yes" to all, or the first "no".
-#[derive(Clone, Copy)]
-pub enum Asked {
-    Yes,
-    No(Refusal),
-}
+pub type Asked = Result<(), Refusal>;
 
 // A row program's call with its operands, as a value.
-#[derive(Clone, Copy)]
+#[derive(Clone, Copy, PartialEq, Eq)]
 pub enum RowCall {
     Car(u16),
     Cdr(u16),
@@ -189,59 +90,45 @@ pub enum RowCall {
 }
 
 // A row call's answer: the new cell, the word read, the word detached, else 0; or a refusal.
-#[derive(Clone, Copy)]
-pub enum RowAnswer {
-    Done(u16),
-    Refused(Refusal),
-}
+pub type RowAnswer = Result<u16, Refusal>;
 
-#[derive(Clone, Copy)]
-pub enum FreshAnswer {
-    Done,
-    Refused(Refusal),
-}
+pub type FreshAnswer = Result<(), Refusal>;
 
-#[derive(Clone, Copy)]
-pub enum StepAnswer {
+// What an accepted step did: nothing, since no packet waits, or it applied a packet of this kind and freed so many cells.
+#[derive(Clone, Copy, PartialEq, Eq)]
+pub enum Step {
     Idle,
     Applied { kind: u16, freed: u16 },
-    Refused(Refusal),
 }
 
+pub type StepAnswer = Result<Step, Refusal>;
+
 // The audit's rules S1 to S5, by what each is about.
-#[derive(Clone, Copy)]
+#[derive(Clone, Copy, PartialEq, Eq)]
 pub enum Rule {
-    Cells,
-    FreeChain,
-    Packets,
-    Pointers,
-    Reached,
+    Cells = 1,
+    FreeChain = 2,
+    Packets = 3,
+    Pointers = 4,
+    Reached = 5,
 }
 
 impl Rule {
     pub fn number(self) -> u16
         ensures { result ≡ rule_number self }
     {
-        match self {
-            Rule::Cells => 1,
-            Rule::FreeChain => 2,
-            Rule::Packets => 3,
-            Rule::Pointers => 4,
-            Rule::Reached => 5,
-        }
+        self as u16
     }
 }
 
-#[derive(Clone, Copy)]
-pub enum AuditAnswer {
+// What an accepted audit found.
+#[derive(Clone, Copy, PartialEq, Eq)]
+pub enum Finding {
     Sound,
     Broken(Rule),
-    Refused(Refusal),
 }
 
+pub type AuditAnswer = Result<Finding, Refusal>;
+
 // How many bytes the text of a word has, where it can be written, or the refusal.
-#[derive(Clone, Copy)]
-pub enum LengthAnswer {
-    Length(usize),
-    Refused(Refusal),
-}
+pub type LengthAnswer = Result<usize, Refusal>;

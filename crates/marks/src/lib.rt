@@ -17,12 +17,7 @@ pub fn clear(scratch: &mut [u16], c: u16)
     requires { scratch_words c ≤ length scratch.old }
     ensures { scratch.new ≡ cleared (scratch_words c) scratch.old }
 {
-    let n = cells::scratch_for(c);
-    let mut i: usize = 0;
-    while i < n {
-        scratch[i] = 0;
-        i += 1;
-    }
+    scratch[..cells::scratch_for(c)].fill(0);
 }
 
 // Every reached cell marked, from a scratch that holds anything.

@@ -13,12 +13,11 @@ fn push(scratch: &mut [u16], c: u16, top: u16, w: u16) -> u16
     ensures { Pushes c (stack scratch.new result) (pushed c w (stack scratch.old top)) }
 {
     if is_cell(c, w) {
-        let index = (w - 1) as usize;
+        let index = usize::from(w - 1);
         if scratch[index] == 0 {
             scratch[index] = top + 2;
             return w;
         }
-        return top;
     }
     top
 }
@@ -27,10 +26,11 @@ fn push_if_rooted(table: &[u16], scratch: &mut [u16], c: u16, top: u16, i: u16) 
     requires { (table_length c ≤ length table.now) × (scratch_words c ≤ length scratch.old) × (c ≤ most_cells) × (top ≤ c) × (i < c) }
     ensures { Pushes c (stack scratch.new result) (pushed_if_rooted table.now c i (stack scratch.old top)) }
 {
-    if rooted(table, i as usize) {
-        return push(scratch, c, top, i + 1);
+    if rooted(table, usize::from(i)) {
+        push(scratch, c, top, i + 1)
+    } else {
+        top
     }
-    top
 }
 
 // The roots.
@@ -39,10 +39,8 @@ pub(crate) fn push_rooted(table: &[u16], scratch: &mut [u16], c: u16) -> u16
     ensures { Pushes c (stack scratch.new result) (pushed_rooted table.now c c (stack scratch.old 0)) }
 {
     let mut top: u16 = 0;
-    let mut i: u16 = 0;
-    while i < c {
+    for i in 0..c {
         top = push_if_rooted(table, scratch, c, top, i);
-        i += 1;
     }
     top
 }
@@ -52,7 +50,7 @@ fn visit(table: &[u16], scratch: &mut [u16], c: u16, top: u16) -> u16
     requires { Visitable c table.now (stack scratch.old top) }
     ensures { Pushes c (stack scratch.new result) (visited table.now c (stack scratch.old top)) }
 {
-    let index = (top - 1) as usize;
+    let index = usize::from(top - 1);
     let next = scratch[index] - 2;
     scratch[index] = 1;
     let one = push(scratch, c, next, cells::field(table, index, cells::LEFT));
@@ -65,6 +63,7 @@ pub(crate) fn follow(table: &[u16], scratch: &mut [u16], c: u16, first: u16)
     ensures { Follows c table.now scratch.old scratch.new }
 {
     let mut top = first;
+    // Kept: a word of the scratch links to the next pending cell, and 0 is its "none" (`Chained` of specs/Stack.antt): pending cells come while others go.
     while top != 0 {
         top = visit(table, scratch, c, top);
     }

@@ -14,12 +14,7 @@ pub fn rooted(table: &[u16], index: usize) -> bool
     requires { table_length (suc index) ≤ length table.now }
     ensures { result ≡ is_root table.now index }
 {
-    let roots = cells::root_count(table, index);
-    if 0 < roots.0 {
-        return true;
-    }
-    let names = cells::name_count(table, index);
-    0 < names.0
+    0 < cells::root_count(table, index).0 || 0 < cells::name_count(table, index).0
 }
 
 // The word of a taken packet that tells whether anything can be freed.
@@ -39,8 +34,5 @@ pub fn stays_root(table: &[u16], w: u16) -> bool
     requires { TableShape table.now }
     ensures { result ≡ stays_root table.now w }
 {
-    if is_cell(cells::capacity_of(table), w) {
-        return rooted(table, (w - 1) as usize);
-    }
-    true
+    !is_cell(cells::capacity_of(table), w) || rooted(table, usize::from(w - 1))
 }

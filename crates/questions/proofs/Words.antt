@@ -1,7 +1,7 @@
 -- Which words are legal, which may be stored, and which calls read nil, by the code's tests.
 use mathlib.Core.Path.{◌≡◌, refl}
 use mathlib.Core.Bool.{true, false}
-use Prim.Native.Nat.{ℕ, ◌-◌, ◌≤◌, ◌<◌}
+use Prim.Native.Nat.{ℕ, zero, suc, ◌-◌, ◌≤◌, ◌<◌}
 use native.Mathlib.Omega.{arith}
 use lib.Dec.{leb, ltb}
 use borrow.Author.Tests.{ne_eqb, le-leb, lt-leb}
@@ -11,13 +11,14 @@ use Rattle.machine.specs.Calls.{reads_nil}
 use Rattle.machine.specs.Answers.{call_of}
 use Rattle.machine.proofs.Lists.{and-true}
 
-pub legal_cell : (c w : ℕ) → (w ≡ 0 → ⊥) → w ≤ c → is_legal c w ≡ true
+pub legal_low : (c w : ℕ) → w ≤ c → is_legal c w ≡ true
 unfolding is_legal is_nil is_cell
-legal_cell c w z l = rw (ne_eqb w 0 z, le-leb 1 w (omega arith), le-leb w c l)
+legal_low c zero l = refl
+legal_low c (suc w) l = rw (ne_eqb (suc w) 0 (λ e. omega arith), le-leb 1 (suc w) (omega arith), le-leb (suc w) c l)
 
-pub legal_atom : (c w : ℕ) → (w ≡ 0 → ⊥) → c < w → w ≤ largest_word → is_legal c w ≡ leb first_atom w
+pub legal_atom : (c w : ℕ) → c < w → w ≤ largest_word → is_legal c w ≡ leb first_atom w
 unfolding is_legal is_nil is_cell is_atom
-legal_atom c w z l m = rw (ne_eqb w 0 z, le-leb 1 w (omega arith), lt-leb w c l, le-leb w largest_word m) (and-true (leb first_atom w))
+legal_atom c w l m = rw (ne_eqb w 0 (λ e. omega arith), lt-leb w c l, le-leb w largest_word m, le-leb 1 w (omega arith)) (and-true (leb first_atom w))
 
 pub other_stored : (w : ℕ) → w < first_atom → true ≡ may_be_stored w
 unfolding may_be_stored is_atom

@@ -1,48 +1,35 @@
 // What the questions ask that have an answer on every store: of words and numbers, of the queue, and questions 1 and 2, which calls, collector and
-// audit ask before anything else. Of the queue they look at its place and count alone.
+// audit ask before anything else. The queue is lent, since by value it would be copied.
 #![tactic(auto)]
 
 ghost use Rattle.std.specs.Prelude.{◌≡◌, ◌≤◌, length};
 ghost use Rattle.machine.specs.Words.{is_cell, is_legal, may_be_stored};
-ghost use Rattle.machine.specs.declared.Queue.{Queue};
 ghost use Rattle.machine.specs.Table.{header};
-ghost use Rattle.machine.specs.Queue.{placed};
 ghost use Rattle.machine.specs.Calls.{step, store, reads_nil};
 ghost use Rattle.machine.specs.Questions.{first_no, early, in_range, long_enough, scratch_enough, cells_in_range, number_in_range, slot_empty};
 ghost use Rattle.machine.specs.Answers.{asked_number, call_of};
 
-use machine::{Asked, CLIP, FIRST_ATOM, MOST_CELLS, Queue, Refusal, RootCount, RowCall};
+use machine::{Asked, CLIP, FIRST_ATOM, Limited, MOST_CELLS, Queue, Refusal, RootCount, RowCall};
 
 // Of c cells.
 pub fn is_cell(c: u16, w: u16) -> bool
     ensures { result ≡ is_cell c w }
 {
-    if w < 1 {
-        return false;
-    }
-    w <= c
+    1 <= w && w <= c
 }
 
+// Nil is 0, and so at most c.
 pub fn is_legal(c: u16, w: u16) -> bool
     ensures { result ≡ is_legal c w }
 {
-    if w == 0 {
-        return true;
-    }
-    if w <= c {
-        return true;
-    }
-    FIRST_ATOM <= w
+    w <= c || FIRST_ATOM <= w
 }
 
 // Question 14 of a word: no atom, or an atom of a value below the clip.
 pub fn may_be_stored(w: u16) -> bool
     ensures { result ≡ may_be_stored w }
 {
-    if w < FIRST_ATOM {
-        return true;
-    }
-    w - FIRST_ATOM < CLIP
+    w < FIRST_ATOM || w - FIRST_ATOM < CLIP
 }
 
 // A read of nil, of which only questions 1 and 4 are asked.
@@ -50,8 +37,7 @@ pub fn reads_nil(call: RowCall) -> bool
     ensures { result ≡ reads_nil (call_of call) }
 {
     match call {
-        RowCall::Car(x) => x == 0,
-        RowCall::Cdr(x) => x == 0,
+        RowCall::Car(x) | RowCall::Cdr(x) => x == 0,
         _ => false,
     }
 }
@@ -60,27 +46,21 @@ pub fn reads_nil(call: RowCall) -> bool
 pub fn number_in_range(n: u16) -> bool
     ensures { result ≡ number_in_range n }
 {
-    if n < 1 {
-        return false;
-    }
-    n <= RootCount::CEILING
+    1 <= n && n <= RootCount::CEILING
 }
 
 // Question 3 of C.
 pub fn cells_in_range(c: u16) -> bool
     ensures { result ≡ cells_in_range c }
 {
-    if c < 1 {
-        return false;
-    }
-    c <= MOST_CELLS
+    1 <= c && c <= MOST_CELLS
 }
 
 // Question 7.
-pub fn slot_empty(count: u16) -> bool
-    ensures { (q : Queue) → result ≡ slot_empty (placed q q.place count) }
+pub fn slot_empty(queue: &Queue) -> bool
+    ensures { result ≡ slot_empty queue.now }
 {
-    count < Queue::SLOTS
+    queue.count < Queue::SLOTS
 }
 
 // Question 1 of a fresh.
@@ -91,29 +71,20 @@ pub fn long_enough(c: u16, table: &[u16]) -> bool
 }
 
 // Question 1: C, both free ends, the queue's place and count are within range, and the table has the words for its cells.
-pub fn in_range(table: &[u16], place: u16, count: u16) -> bool
-    ensures { (q : Queue) → result ≡ in_range table.now (placed q place count) }
+pub fn in_range(table: &[u16], queue: &Queue) -> bool
+    ensures { result ≡ in_range table.now queue.now }
 {
     if table.len() < cells::words_for(1) {
         return false;
     }
     let c = cells::capacity_of(table);
-    if c < 1 {
+    if c < 1 || MOST_CELLS < c {
         return false;
     }
-    if MOST_CELLS < c {
+    if c < cells::first_free(table) || c < cells::last_free(table) {
         return false;
     }
-    if c < cells::first_free(table) {
-        return false;
-    }
-    if c < cells::last_free(table) {
-        return false;
-    }
-    if Queue::SLOTS <= place {
-        return false;
-    }
-    if Queue::SLOTS < count {
+    if Queue::SLOTS <= queue.place || Queue::SLOTS < queue.count {
         return false;
     }
     cells::words_for(c) <= table.len()
@@ -128,14 +99,14 @@ pub fn scratch_enough(table: &[u16], scratch: &[u16]) -> bool
 }
 
 // Questions 1 and 2, of a step and an audit.
-pub fn lent(table: &[u16], place: u16, count: u16, scratch: &[u16]) -> Asked
-    ensures { (q : Queue) → asked_number result ≡ first_no (early (store table.now (placed q place count) scratch.now) step) }
+pub fn lent(table: &[u16], queue: &Queue, scratch: &[u16]) -> Asked
+    ensures { asked_number result ≡ first_no (early (store table.now queue.now scratch.now) step) }
 {
-    if in_range(table, place, count) {
-        if scratch_enough(table, scratch) {
-            return Asked::Yes;
-        }
-        return Asked::No(Refusal::ScratchTooShort);
+    if !in_range(table, queue) {
+        return Err(Refusal::StoreOutOfRange);
     }
-    Asked::No(Refusal::StoreOutOfRange)
+    if !scratch_enough(table, scratch) {
+        return Err(Refusal::ScratchTooShort);
+    }
+    Ok(())
 }

@@ -23,8 +23,8 @@ abbrev Small : Counter → Kind → ℕ → ℕ → ℕ → Type 0
 Small c k a b x = (moved_by c plus x (changes_of k a b) ≤ largest_word) × (moved_by c minus x (changes_of k a b) ≤ largest_word)
 
 module _ (c : Counter) (a b x : ℕ) (k : Kind) (r l r' l' : ℕ) (m : Moved c k a b x r l r' l') where
-  counter_added : (kind : ℕ) → kind_of kind ≡ k → CounterAdded c kind a b x r l r' l'
-  counter_added kind e = record { raised = rw e m.0; lowered = rw e m.1 }
+  counter_added : (kind : ℕ) → k ≡ kind_of kind → CounterAdded c kind a b x r l r' l'
+  counter_added kind e = record { raised = rw (← e) m.0; lowered = rw (← e) m.1 }
 
   counter_few : Small c k a b x → (n : ℕ) → AtMost n r l → AtMost (n + 1) r' l'
   counter_few f n h = record { raised = omega (arith, m.0, f.0, h.raised); lowered = omega (arith, m.1, f.1, h.lowered) }
@@ -36,7 +36,7 @@ module _ (s s' : Sums) (kind a b x : ℕ) (k : Kind) where
   abbrev PointersMoved : Type 0
   PointersMoved = Moved cell k a b x s.pointers.raised s.pointers.lowered s'.pointers.raised s'.pointers.lowered
 
-  pub added : kind_of kind ≡ k → HeldMoved → PointersMoved → Small root k a b x → Small cell k a b x → Added s kind a b x s'
+  pub added : k ≡ kind_of kind → HeldMoved → PointersMoved → Small root k a b x → Small cell k a b x → Added s kind a b x s'
   added e h p f g = record {
     held = counter_added root a b x k s.held.raised s.held.lowered s'.held.raised s'.held.lowered h kind e;
     pointers = counter_added cell a b x k s.pointers.raised s.pointers.lowered s'.pointers.raised s'.pointers.lowered p kind e;
@@ -76,10 +76,9 @@ unfolding kind_of
 kind_unknown k a b c d e f = simp (ne_eqb k 1 a, ne_eqb k 2 b, ne_eqb k 3 c, ne_eqb k 4 d, ne_eqb k 5 e, ne_eqb k 6 f)
 
 -- no packets, and one packet more
-pub sums_none : (q : Queue) (j x : ℕ)
-    → SumsOf (packets_from q j zero) x (record { held = record { raised = 0; lowered = 0 }; pointers = record { raised = 0; lowered = 0 } })
+pub sums_none : (q : Queue) (j x : ℕ) (s : Sums) → s.held.raised ≡ 0 → s.held.lowered ≡ 0 → s.pointers.raised ≡ 0 → s.pointers.lowered ≡ 0 → SumsOf (packets_from q j zero) x s
 unfolding packets_from waiting_change
-sums_none q j x = record { held = record { raised = refl; lowered = refl }; pointers = record { raised = refl; lowered = refl } }
+sums_none q j x s d e f g = record { held = record { raised = d; lowered = e }; pointers = record { raised = f; lowered = g } }
 
 module _ (q : Queue) (j n x : ℕ) where
   abbrev newest : Packet

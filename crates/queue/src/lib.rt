@@ -5,9 +5,12 @@ ghost use Rattle.std.specs.Prelude.{◌≡◌, List, ℕ, suc, ◌+◌, ◌%◌,
 ghost use Rattle.machine.specs.Range.{matching};
 ghost use Rattle.machine.specs.Queue.{slots, queue_of, slot, waiting};
 ghost use Rattle.machine.specs.Words.{largest_word};
+ghost use Rattle.machine.specs.Packets.{kind_of};
+ghost use Rattle.queue.specs.Kinds.{known_as, kind_number};
 ghost use Rattle.queue.specs.Sums.{packet_of, AtMost, WithCount, at_least, at_most_ceiling, Bounded, Added, SumsOf};
 
-use machine::{CellCount, Queue, RootCount};
+use machine::{CellCount, Limited, Queue, RootCount};
+use std::marker::PhantomData;
 
 // What a slot holds.
 #[derive(Clone, Copy)]
@@ -19,6 +22,40 @@ pub struct Packet {
 }
 
 // The kinds, by the call that queues a packet.
+#[derive(Clone, Copy, PartialEq, Eq)]
+pub enum Kind {
+    Read = 1,
+    Cons = 2,
+    ReplaceLeft = 3,
+    Up = 4,
+    Down = 5,
+    ReplaceRight = 6,
+}
+
+impl Kind {
+    // A damaged slot's word may be no kind's number.
+    #[tactic(auto, unfolding(machine::specs::Packets::kind_of))]
+    pub fn of(number: u16) -> Option<Kind>
+        ensures { known_as result ≡ kind_of number }
+    {
+        match number {
+            1 => Some(Kind::Read),
+            2 => Some(Kind::Cons),
+            3 => Some(Kind::ReplaceLeft),
+            4 => Some(Kind::Up),
+            5 => Some(Kind::Down),
+            6 => Some(Kind::ReplaceRight),
+            _ => None,
+        }
+    }
+
+    pub fn number(self) -> u16
+        ensures { result ≡ kind_number self }
+    {
+        self as u16
+    }
+}
+
 impl Packet {
     pub const READ: u16 = 1;
 
@@ -31,6 +68,12 @@ impl Packet {
     pub const DOWN: u16 = 5;
 
     pub const REPLACE_RIGHT: u16 = 6;
+
+    pub fn known_kind(self) -> Option<Kind>
+        ensures { known_as result ≡ kind_of self.kind }
+    {
+        Kind::of(self.kind)
+    }
 }
 
 // The slot that lies i places after the first.
@@ -38,70 +81,56 @@ pub fn slot_after(place: u16, i: u16) -> usize
     requires { (place < slots) × (i ≤ slots) }
     ensures { (result ≡ (place + i) % slots) × (result < slots) }
 {
-    ((place + i) % Queue::SLOTS) as usize
+    usize::from((place + i) % Queue::SLOTS)
 }
 
-// By how much a root count is to be raised and lowered; with the root count added, the held count is the difference.
+// By how much a count of the sort K is to be raised and lowered; with the count added, what it counts is the difference.
 #[derive(Clone, Copy)]
-pub struct HeldSums {
+pub struct CounterSums<K> {
     pub raised: u32,
     pub lowered: u32,
+    pub of: PhantomData<K>,
 }
 
-impl HeldSums {
-    // With the root count itself.
-    pub fn with(self, count: RootCount) -> HeldSums
-        requires { AtMost slots self.raised self.lowered }
-        ensures { WithCount count.0 self.raised self.lowered result.raised result.lowered }
+pub type HeldSums = CounterSums<RootCount>;
+
+pub type PointerSums = CounterSums<CellCount>;
+
+impl<K: Limited> CounterSums<K> {
+    pub fn new(raised: u32, lowered: u32) -> CounterSums<K>
+        ensures { (result.raised ≡ raised) × (result.lowered ≡ lowered) }
     {
-        HeldSums {
-            raised: (count.0 as u32) + self.raised,
-            lowered: self.lowered,
+        CounterSums {
+            raised,
+            lowered,
+            of: PhantomData,
         }
     }
 
+    // With the count itself.
+    pub fn with(self, count: K) -> CounterSums<K>
+        requires { AtMost slots self.raised self.lowered }
+        ensures { WithCount (K.value count) self.raised self.lowered result.raised result.lowered }
+    {
+        CounterSums::new(u32::from(count.get()) + self.raised, self.lowered)
+    }
+
+    // Questions 9 and 10: held, or pointed to, at most 4,095 times after so many further raises and lowerings.
+    pub fn within(self, more: u32, less: u32) -> bool
+        requires { AtMost (suc slots) self.raised self.lowered × (more ≤ largest_word) × (less ≤ largest_word) }
+        ensures { result ≡ at_most_ceiling (self.raised + more) (self.lowered + less) }
+    {
+        self.raised + more <= u32::from(K::CEILING) + (self.lowered + less)
+    }
+}
+
+impl CounterSums<RootCount> {
     // Question 6: held n times or more.
     pub fn at_least(self, n: u32) -> bool
         requires { AtMost (suc slots) self.raised self.lowered × (n ≤ largest_word) }
         ensures { result ≡ at_least self.raised self.lowered n }
     {
         self.lowered + n <= self.raised
-    }
-
-    // Question 9: held at most 4,095 times after so many further raises and lowerings.
-    pub fn within(self, more: u32, less: u32) -> bool
-        requires { AtMost (suc slots) self.raised self.lowered × (more ≤ largest_word) × (less ≤ largest_word) }
-        ensures { result ≡ at_most_ceiling (self.raised + more) (self.lowered + less) }
-    {
-        self.raised + more <= (RootCount::CEILING as u32) + (self.lowered + less)
-    }
-}
-
-// By how much a cell count is to be raised and lowered; with the cell count added, the pointers are the difference.
-#[derive(Clone, Copy)]
-pub struct PointerSums {
-    pub raised: u32,
-    pub lowered: u32,
-}
-
-impl PointerSums {
-    // With the cell count itself.
-    pub fn with(self, count: CellCount) -> PointerSums
-        requires { AtMost slots self.raised self.lowered }
-        ensures { WithCount count.0 self.raised self.lowered result.raised result.lowered }
-    {
-        PointerSums {
-            raised: (count.0 as u32) + self.raised,
-            lowered: self.lowered,
-        }
-    }
-
-    // Question 10: at most 4,095 pointers after so many further raises and lowerings.
-    pub fn within(self, more: u32, less: u32) -> bool
-        requires { AtMost (suc slots) self.raised self.lowered × (more ≤ largest_word) × (less ≤ largest_word) }
-        ensures { result ≡ at_most_ceiling (self.raised + more) (self.lowered + less) }
-    {
-        self.raised + more <= (CellCount::CEILING as u32) + (self.lowered + less)
     }
 }
 
@@ -113,6 +142,7 @@ pub struct Sums {
 }
 
 // The packet in slot j.
+#[tactic(auto, unfolding(machine::specs::Queue::slot))]
 pub fn packet_at(queue: Queue, j: usize) -> Packet
     requires { j < slots }
     ensures { packet_of result ≡ slot queue j }
@@ -126,51 +156,44 @@ pub fn packet_at(queue: Queue, j: usize) -> Packet
 }
 
 // n where the word w is x, else 0.
+#[tactic(auto, unfolding(machine::specs::Range::matching))]
 pub fn matched(w: u16, x: u16, n: u16) -> u32
     ensures { (result ≡ matching w x n) × (result ≤ n) }
 {
-    if w == x {
-        return n as u32;
-    }
-    0
+    if w == x { u32::from(n) } else { 0 }
 }
 
 // The sums with one packet's changes of x added; a packet that has x neither in a nor in b changes no count of it, whatever its kind.
-fn with_changes(s: Sums, kind: u16, a: u16, b: u16, x: u16) -> Sums
+fn with_changes(mut s: Sums, kind: u16, a: u16, b: u16, x: u16) -> Sums
     requires { Bounded 63 s }
     ensures { Added s kind a b x result }
 {
-    if a != x {
-        if b != x {
-            return s;
-        }
+    if a != x && b != x {
+        return s;
     }
-    let mut held = s.held;
-    let mut pointers = s.pointers;
+    let Some(kind) = Kind::of(kind) else {
+        return s;
+    };
     match kind {
-        Packet::READ => {
-            held.lowered += matched(a, x, 1);
-            held.raised += matched(b, x, 1);
+        Kind::Read => {
+            s.held.lowered += matched(a, x, 1);
+            s.held.raised += matched(b, x, 1);
         }
-        Packet::CONS => {
+        Kind::Cons => {
             let both = matched(a, x, 1) + matched(b, x, 1);
-            held.lowered += both;
-            pointers.raised += both;
+            s.held.lowered += both;
+            s.pointers.raised += both;
         }
-        Packet::REPLACE_LEFT | Packet::REPLACE_RIGHT => {
+        Kind::ReplaceLeft | Kind::ReplaceRight => {
             let put = matched(a, x, 1);
-            held.lowered += put;
-            pointers.raised += put;
-            pointers.lowered += matched(b, x, 1);
+            s.held.lowered += put;
+            s.pointers.raised += put;
+            s.pointers.lowered += matched(b, x, 1);
         }
-        Packet::UP => held.raised += matched(a, x, b),
-        Packet::DOWN => held.lowered += matched(a, x, b),
-        _ => {}
+        Kind::Up => s.held.raised += matched(a, x, b),
+        Kind::Down => s.held.lowered += matched(a, x, b),
     }
-    Sums {
-        held: held,
-        pointers: pointers,
-    }
+    s
 }
 
 // The waiting changes of x, over the waiting slots only, by the queue's arrays of kinds, a and b: the words c play no part, whatever they are.
@@ -187,20 +210,12 @@ pub fn waiting_changes<'q>(
     ensures bounded { Bounded slots result }
 {
     let mut s = Sums {
-        held: HeldSums {
-            raised: 0,
-            lowered: 0,
-        },
-        pointers: PointerSums {
-            raised: 0,
-            lowered: 0,
-        },
+        held: CounterSums::new(0, 0),
+        pointers: CounterSums::new(0, 0),
     };
-    let mut i: u16 = 0;
-    while i < count {
+    for i in 0..count {
         let j = slot_after(place, i);
         s = with_changes(s, kinds[j], a[j], b[j], x);
-        i += 1;
     }
     s
 }

@@ -1,4 +1,5 @@
 -- The questions before a text is read, by what the code finds, and what the call gives.
+use Rattle.std.specs.Prelude.{Ok, Err}
 use mathlib.Core.Path.{◌≡◌, refl, sym, ap, ◌∙◌}
 use mathlib.Core.Bool.{Bool, true, false, cond, not, ◌&&◌}
 use mathlib.Core.List.{List, []}
@@ -16,9 +17,9 @@ use Rattle.scanner.specs.declared.Scanned.{Scanned}
 use Rattle.notation.specs.Grammar.{most_text}
 use Rattle.scanner.specs.Scans.{judged, scan_of}
 use Rattle.machine.specs.declared.Queue.{Queue}
-use Rattle.machine.specs.declared.Asked.{Asked}
+use Rattle.machine.specs.Answers.{Asked}
 use Rattle.machine.specs.declared.Refusal.{Refusal}
-use Rattle.machine.specs.declared.RowAnswer.{RowAnswer}
+use Rattle.machine.specs.Answers.{RowAnswer}
 use Rattle.machine.specs.Words.{is_cell, first_atom, may_be_stored}
 use Rattle.machine.specs.Table.{left, capacity, first_free, word_at}
 use Rattle.machine.specs.Queue.{slots}
@@ -122,14 +123,14 @@ module _ (t : List ℕ) (q : Queue) (text : List ℕ) where
     asked_tree n v e = rw e at asked_scan
 
   -- a question says "no"
-  pub read_refused : (a : Asked) (f : Refusal) → asked_number a ≡ first_no (read_questions t q text) → a ≡ Asked.No f → ReadCalled t q text (RowAnswer.Refused f) t q
+  pub read_refused : (a : Asked) (f : Refusal) → asked_number a ≡ first_no (read_questions t q text) → a ≡ Err f → ReadCalled t q text (Err f) t q
   unfolding read_outcome
   read_refused a f h n = go (first_no (read_questions t q text)) refl
     where
       e : refusal_number f ≡ first_no (read_questions t q text)
       e = asked_no h n
 
-      go : (m : ℕ) → first_no (read_questions t q text) ≡ m → ReadCalled t q text (RowAnswer.Refused f) t q
+      go : (m : ℕ) → first_no (read_questions t q text) ≡ m → ReadCalled t q text (Err f) t q
       go zero d = absurd (omega (arith, refusal_some f, e ∙ d))
       go (suc m) d =
           let o : read_outcome t q text ≡ outcome (refused (suc m)) (store t q []) = rw d in
@@ -140,7 +141,7 @@ module _ (t : List ℕ) (q : Queue) (text : List ℕ) where
           }
 
   -- all questions say "yes"
-  module _ (a : Asked) (h : asked_number a ≡ first_no (read_questions t q text)) (said : a ≡ Asked.Yes) where
+  module _ (a : Asked) (h : asked_number a ≡ first_no (read_questions t q text)) (said : a ≡ Ok tt) where
     yes : 0 ≡ first_no (read_questions t q text)
     yes = asked_yes h said
 
@@ -158,7 +159,7 @@ module _ (t : List ℕ) (q : Queue) (text : List ℕ) where
         go (tree u) e b d n = record { means = u; parsed = e; shallow = d; few = omega arith }
         go none e b d n = let z : ◌≡◌ {A = ℕ} 0 1 = cc in absurd (omega arith)
 
-    pub read_done_lem : (w : ℕ) (t' : List ℕ) (q' : Queue) → Builds t q text w t' q' → ReadCalled t q text (RowAnswer.Done w) t' q'
+    pub read_done_lem : (w : ℕ) (t' : List ℕ) (q' : Queue) → Builds t q text w t' q' → ReadCalled t q text (Ok w) t' q'
     unfolding read_outcome
     read_done_lem w t' q' built =
         let r = readable in

@@ -13,7 +13,7 @@ use Rattle.notation.specs.Grammar.{closing, dot}
 use Rattle.notation.specs.Trees.{largest_value}
 use Rattle.notation.specs.Brackets.{most_open}
 use Rattle.machine.specs.declared.Queue.{Queue}
-use Rattle.machine.specs.declared.RowAnswer.{RowAnswer}
+use Rattle.machine.specs.Answers.{RowAnswer}
 use Rattle.machine.specs.Words.{first_atom}
 use Rattle.machine.specs.Calls.{Store, store, cons}
 use Rattle.machine.specs.Questions.{first_no}

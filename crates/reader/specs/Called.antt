@@ -2,7 +2,7 @@
 use Rattle.std.specs.Prelude.{◌≡◌, Bool, true, ◌&&◌, List, [], ◌∷◌, ◌++◌, ℕ, zero, suc, ◌+◌, leb}
 use Rattle.notation.specs.Parse.{Parsed, parse, meaning}
 use Rattle.machine.specs.declared.Queue.{Queue}
-use Rattle.machine.specs.declared.RowAnswer.{RowAnswer}
+use Rattle.machine.specs.Answers.{RowAnswer}
 use Rattle.machine.specs.Words.{is_cell, first_atom, may_be_stored}
 use Rattle.machine.specs.Table.{left, capacity, first_free}
 use Rattle.machine.specs.Queue.{slots}

@@ -1,9 +1,8 @@
 // The questions before a text is read. Nothing is written until all of them say "yes".
 ghost use Rattle.std.specs.Prelude.{◌≡◌, ◌≤◌};
 ghost use Rattle.notation.specs.Trees.{largest_value};
-ghost use Rattle.machine.specs.declared.Queue.{Queue};
 ghost use Rattle.machine.specs.Table.{first_free};
-ghost use Rattle.machine.specs.Queue.{slots, placed};
+ghost use Rattle.machine.specs.Queue.{slots};
 ghost use Rattle.machine.specs.Facts.{TableShape};
 ghost use Rattle.machine.specs.Questions.{first_no};
 ghost use Rattle.machine.specs.Answers.{asked_number};
@@ -36,12 +35,12 @@ fn pairs_asked(table: &[u16], count: u16, n: u16) -> Asked
     ensures { asked_number result ≡ pairs_number table.now count n }
 {
     if Queue::SLOTS - count < n {
-        return Asked::No(Refusal::QueueFull);
+        return Err(Refusal::QueueFull);
     }
-    if chain_has(table, n) {
-        return Asked::Yes;
+    if !chain_has(table, n) {
+        return Err(Refusal::NoFreeCell);
     }
-    Asked::No(Refusal::NoFreeCell)
+    Ok(())
 }
 
 // And before them question 14 of the atoms, by the largest of their values.
@@ -49,23 +48,23 @@ fn tree_asked(table: &[u16], count: u16, pairs: u16, largest: u16) -> Asked
     requires { TableShape table.now × (count ≤ slots) × (largest ≤ largest_value) }
     ensures { asked_number result ≡ tree_number table.now count pairs largest }
 {
-    if questions::may_be_stored(FIRST_ATOM + largest) {
-        return pairs_asked(table, count, pairs);
+    if !questions::may_be_stored(FIRST_ATOM + largest) {
+        return Err(Refusal::ClippedReading);
     }
-    Asked::No(Refusal::ClippedReading)
+    pairs_asked(table, count, pairs)
 }
 
 // All of them: 1, 11, 12, 14, 7 and 8.
-pub fn text_asked(table: &[u16], place: u16, count: u16, text: &[u8]) -> Asked
-    ensures { (q : Queue) → asked_number result ≡ first_no (read_questions table.now (placed q place count) text.now) }
+pub fn text_asked(table: &[u16], queue: &Queue, text: &[u8]) -> Asked
+    ensures { asked_number result ≡ first_no (read_questions table.now queue.now text.now) }
 {
-    if !questions::in_range(table, place, count) {
-        return Asked::No(Refusal::StoreOutOfRange);
+    if !questions::in_range(table, queue) {
+        return Err(Refusal::StoreOutOfRange);
     }
     let scanned = scanner::scan(text);
     match scanned {
-        Scanned::Outside => Asked::No(Refusal::NotInNotation),
-        Scanned::TooDeep => Asked::No(Refusal::TooDeep),
-        Scanned::Tree { pairs, largest } => tree_asked(table, count, pairs, largest),
+        Scanned::Outside => Err(Refusal::NotInNotation),
+        Scanned::TooDeep => Err(Refusal::TooDeep),
+        Scanned::Tree { pairs, largest } => tree_asked(table, queue.count, pairs, largest),
     }
 }

@@ -36,10 +36,7 @@ struct Place {
 fn new_word(answer: RowAnswer) -> u16
     ensures { result ≡ new_word (row_reply answer) }
 {
-    match answer {
-        RowAnswer::Done(w) => w,
-        RowAnswer::Refused(_) => 0,
-    }
+    answer.unwrap_or(0)
 }
 
 fn pair(table: &mut [u16], queue: Queue, x: u16, y: u16) -> Built

@@ -9,25 +9,22 @@ ghost use Rattle.reader.specs.Called.{ReadCalled};
 use asked::text_asked;
 use build::build;
 use calls::RowReply;
-use machine::{Asked, Queue, RowAnswer};
+use machine::Queue;
 
 // The reply is the word of the text's tree.
 pub fn read_text(table: &mut [u16], queue: Queue, text: &[u8]) -> RowReply
     ensures { ReadCalled table.old queue text.now result.answer table.new result.queue }
 {
-    let asked = text_asked(table, queue.place, queue.count, text);
-    match asked {
-        Asked::No(refusal) => RowReply {
-            answer: RowAnswer::Refused(refusal),
-            queue: queue,
-        },
-        Asked::Yes => {
-            let built = build(table, queue, text);
-            let rest = built.queue;
-            RowReply {
-                answer: RowAnswer::Done(built.word),
-                queue: rest,
-            }
-        }
+    if let Err(refusal) = text_asked(table, &queue, text) {
+        return RowReply {
+            answer: Err(refusal),
+            queue,
+        };
+    }
+    let built = build(table, queue, text);
+    let rest = built.queue;
+    RowReply {
+        answer: Ok(built.word),
+        queue: rest,
     }
 }

@@ -1,7 +1,7 @@
 -- What a call replies and makes of the plain list, in a store of c cells; the paper's numbers and values of the code's answers.
-use Rattle.std.specs.Prelude.{Bool, cond, ◌||◌, List, ℕ, zero, suc, ◌+◌, ◌*◌, leb, length}
+use Rattle.std.specs.Prelude.{Bool, cond, ◌||◌, List, ℕ, zero, suc, Option, Some, None, Result, Ok, Err, ◌+◌, ◌*◌, leb, length}
 use Rattle.machine.specs.Answers.{refusal_number}
-use Rattle.readings.specs.declared.RosterAnswer.{RosterAnswer}
+use Rattle.machine.specs.declared.Refusal.{Refusal}
 use Rattle.readings.specs.Readings.{Entry, Found, missing, found, looked_up, is_found, with_seat, without, counted}
 use Rattle.readings.specs.Calls.{RosterCall, set, look_up, remove, count, RosterReply, value, absent, refused}
 
@@ -39,7 +39,10 @@ refused_or zero es g = g
 refused_or (suc n) es g = given (refused (suc n)) es
 
 -- the code's answers
+abbrev pub RosterAnswer : Type 0
+RosterAnswer = Result (Option ℕ) Refusal
+
 abbrev pub roster_reply : RosterAnswer → RosterReply
-roster_reply (RosterAnswer.Done v) = value v
-roster_reply RosterAnswer.Absent = absent
-roster_reply (RosterAnswer.Refused f) = refused (refusal_number f)
+roster_reply (Ok (Some v)) = value v
+roster_reply (Ok None) = absent
+roster_reply (Err f) = refused (refusal_number f)

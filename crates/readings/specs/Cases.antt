@@ -1,12 +1,11 @@
 -- Worked lists of roster calls as one table: C, calls, and the reply to each, on a list that begins empty; and calls with their questions as another. That
 -- they hold is `cases`, `questions` and `codes` in proofs/Cases.
-use Rattle.std.specs.Prelude.{◌≡◌, List, [], ◌∷◌, ℕ, replicate}
+use Rattle.std.specs.Prelude.{◌≡◌, List, [], ◌∷◌, ℕ, Some, None, Ok, Err, replicate}
 use Rattle.machine.specs.declared.Refusal.TheVariants.{SeatOutOfRange}
 use Rattle.machine.specs.Table.{capacity, table_length, scratch_words}
 use Rattle.machine.specs.Queue.{empty_queue}
 use Rattle.machine.specs.Calls.{Store, store, fresh_table}
 use Rattle.machine.specs.Questions.{first_no}
-use Rattle.readings.specs.declared.RosterAnswer.TheVariants.{Done, Absent, Refused}
 use Rattle.readings.specs.Readings.{Entry}
 use Rattle.readings.specs.Calls.{RosterCall, set, look_up, remove, count, RosterReply, value, absent, refused, early_roster}
 use Rattle.readings.specs.Answers.{answered, refused_or, roster_reply}
@@ -104,4 +103,4 @@ questioned =
 
 -- the code's answers
 abbrev pub Coded : Type 0
-Coded = (roster_reply (Done 7) ≡ value 7) × (roster_reply Absent ≡ absent) × (roster_reply (Refused SeatOutOfRange) ≡ refused 15)
+Coded = (roster_reply (Ok (Some 7)) ≡ value 7) × (roster_reply (Ok None) ≡ absent) × (roster_reply (Err SeatOutOfRange) ≡ refused 15)

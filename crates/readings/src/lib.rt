@@ -6,13 +6,8 @@ use machine::{Queue, Refusal};
 // The seats are 1 to this number.
 pub const SEATS: u16 = 600;
 
-// A roster call's answer: the reading, the number of seats, else 0; no such seat; or a refusal.
-#[derive(Clone, Copy)]
-pub enum RosterAnswer {
-    Done(u16),
-    Absent,
-    Refused(Refusal),
-}
+// A roster call's answer: the reading, the number of seats, else 0; nothing, where there is no such seat; or a refusal.
+pub type RosterAnswer = Result<Option<u16>, Refusal>;
 
 // The answer, and the roster's queue and word afterwards.
 #[derive(Clone, Copy)]

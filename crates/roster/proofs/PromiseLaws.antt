@@ -1,4 +1,5 @@
 -- The promise from its parts: refused by an early question, or past them.
+use Rattle.std.specs.Prelude.{Ok, Err}
 use mathlib.Core.Path.{◌≡◌, refl, sym, ap, ◌∙◌}
 use mathlib.Core.Bool.{true, false, ◌&&◌}
 use mathlib.Core.List.{List, ◌∷◌, ◌++◌}
@@ -9,7 +10,7 @@ use borrow.Author.Tests.{leb-true, le-leb, lt-leb, lt-ltb, le-ltb}
 use Rattle.machine.specs.declared.Queue.{Queue}
 use Rattle.machine.specs.declared.Refusal.{Refusal}
 use Rattle.machine.specs.declared.Refusal.TheVariants.{SeatOutOfRange}
-use Rattle.machine.specs.declared.Asked.{Asked}
+use Rattle.machine.specs.Answers.{Asked}
 use Rattle.machine.specs.Answers.{refusal_number, asked_number}
 use Rattle.machine.specs.Words.{first_atom, clip}
 use Rattle.machine.specs.Calls.{Store, store}
@@ -43,10 +44,10 @@ promise_past e p = record {
 
 -- table and scratch as they were before the questions
 module _ {t : List ℕ} {q : Queue} {s : List ℕ} {w : ℕ} {call : RosterCall} {ks : List Question} (same : first_no ks ≡ first_no (early_roster (store t q s) call)) where
-  pub refused_then : {t₁ s₁ : List ℕ} (f : Refusal) → Asks ks t s (Asked.No f) t₁ s₁ → RosterPromise (store t q s) w call (refused (refusal_number f)) (store t₁ q s₁) w
+  pub refused_then : {t₁ s₁ : List ℕ} (f : Refusal) → Asks ks t s (Err f) t₁ s₁ → RosterPromise (store t q s) w call (refused (refusal_number f)) (store t₁ q s₁) w
   refused_then f a = rw (a.table, a.scratch) (promise_refused (refusal_number f) (a.number ∙ same) (refusal_some f))
 
-  pub past_then : {t₁ s₁ : List ℕ} {r : RosterReply} {s' : Store} {w' : ℕ} → Asks ks t s Asked.Yes t₁ s₁ → Past (store t₁ q s₁) w call r s' w'
+  pub past_then : {t₁ s₁ : List ℕ} {r : RosterReply} {s' : Store} {w' : ℕ} → Asks ks t s (Ok tt) t₁ s₁ → Past (store t₁ q s₁) w call r s' w'
       → RosterPromise (store t q s) w call r s' w'
   past_then a p = promise_past (a.number ∙ same) (rw (a.table, a.scratch) at p)
 
@@ -77,7 +78,7 @@ unfolding is_seat
 seat_within seat a b = and_both (le-leb 1 seat a) (le-leb seat seats b)
 
 module _ (seat : ℕ) {ks : List Question} {t s : List ℕ} where
-  pub asks_out : is_seat seat ≡ false → Asks (ask 15 (is_seat seat) ∷ ks) t s (Asked.No SeatOutOfRange) t s
+  pub asks_out : is_seat seat ≡ false → Asks (ask 15 (is_seat seat) ∷ ks) t s (Err SeatOutOfRange) t s
   asks_out e = record { number = sym (first_no_no (ask 15 (is_seat seat)) ks e); table = refl; scratch = refl }
 
   pub asks_seat : {r : Asked} {t₁ s₁ : List ℕ} → is_seat seat ≡ true → Asks ks t s r t₁ s₁ → Asks (ask 15 (is_seat seat) ∷ ks) t s r t₁ s₁
@@ -98,8 +99,8 @@ reading_low r l = rw (le-leb r most_value (omega arith), lt-ltb r clip l) refl
 
 -- a set is asked them last
 module _ (t : List ℕ) (q : Queue) (s : List ℕ) (seat reading : ℕ) {t₁ s₁ : List ℕ} where
-  pub set_no : (f : Refusal) → Asks (ask 15 (is_seat seat) ∷ ask_store (store t q s)) t s (Asked.No f) t₁ s₁
-      → Asks (early_roster (store t q s) (set seat reading)) t s (Asked.No f) t₁ s₁
+  pub set_no : (f : Refusal) → Asks (ask 15 (is_seat seat) ∷ ask_store (store t q s)) t s (Err f) t₁ s₁
+      → Asks (early_roster (store t q s) (set seat reading)) t s (Err f) t₁ s₁
   unfolding early_roster
   set_no f a = record { number = go (refusal_number f) (refusal_some f) a.number; table = a.table; scratch = a.scratch }
     where
@@ -107,7 +108,7 @@ module _ (t : List ℕ) (q : Queue) (s : List ℕ) (seat reading : ℕ) {t₁ s�
       go zero l e = absurd (omega arith)
       go (suc n) l e = sym (first_no_append (ask 15 (is_seat seat) ∷ ask_store (store t q s)) (ask_reading (set seat reading)) n (sym e))
 
-  pub set_yes : {r : Asked} → Asks (ask 15 (is_seat seat) ∷ ask_store (store t q s)) t s Asked.Yes t₁ s₁ → asked_number r ≡ first_no (ask_reading (set 0 reading))
+  pub set_yes : {r : Asked} → Asks (ask 15 (is_seat seat) ∷ ask_store (store t q s)) t s (Ok tt) t₁ s₁ → asked_number r ≡ first_no (ask_reading (set 0 reading))
       → Asks (early_roster (store t q s) (set seat reading)) t s r t₁ s₁
   unfolding early_roster
   set_yes a e = record {

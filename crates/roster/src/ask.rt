@@ -13,10 +13,10 @@ pub fn seat_asked(table: &mut [u16], queue: Queue, scratch: &mut [u16], seat: u1
     ensures { Asks (ask 15 (is_seat seat) ∷ ask_store (store table.old queue scratch.old)) table.old scratch.old result table.new scratch.new }
 {
     if seat < 1 {
-        return Asked::No(Refusal::SeatOutOfRange);
+        return Err(Refusal::SeatOutOfRange);
     }
     if SEATS < seat {
-        return Asked::No(Refusal::SeatOutOfRange);
+        return Err(Refusal::SeatOutOfRange);
     }
     roster_list::store_asked(table, queue, scratch)
 }
@@ -25,12 +25,12 @@ fn reading_asked(reading: u16) -> Asked
     ensures { asked_number result ≡ first_no (ask_reading (set 0 reading)) }
 {
     if FIRST_ATOM <= reading {
-        return Asked::No(Refusal::IllegalWord);
+        return Err(Refusal::IllegalWord);
     }
     if CLIP <= reading {
-        return Asked::No(Refusal::ClippedReading);
+        return Err(Refusal::ClippedReading);
     }
-    Asked::Yes
+    Ok(())
 }
 
 pub fn set_asked(
@@ -42,9 +42,6 @@ pub fn set_asked(
 ) -> Asked
     ensures { Asks (early_roster (store table.old queue scratch.old) (set seat reading)) table.old scratch.old result table.new scratch.new }
 {
-    let asked = seat_asked(table, queue, scratch, seat);
-    match asked {
-        Asked::No(refusal) => Asked::No(refusal),
-        Asked::Yes => reading_asked(reading),
-    }
+    seat_asked(table, queue, scratch, seat)?;
+    reading_asked(reading)
 }

@@ -10,8 +10,8 @@ ghost use Rattle.readings.specs.Calls.{set, look_up, remove, count};
 ghost use Rattle.readings.specs.Answers.{roster_reply};
 ghost use Rattle.roster.specs.Promise.{RosterPromise};
 
-use machine::{Asked, Queue};
-use readings::{Replied, RosterAnswer};
+use machine::Queue;
+use readings::Replied;
 
 // A seat's reading, put in the place of the one that it had, or a new seat.
 pub fn set(
@@ -24,14 +24,13 @@ pub fn set(
 ) -> Replied
     ensures { RosterPromise (store table.old queue scratch.old) word (set seat reading) (roster_reply result.answer) (store table.new result.queue scratch.new) result.word }
 {
-    let asked = ask::set_asked(table, queue, scratch, seat, reading);
-    match asked {
-        Asked::No(refusal) => Replied {
-            answer: RosterAnswer::Refused(refusal),
+    match ask::set_asked(table, queue, scratch, seat, reading) {
+        Err(refusal) => Replied {
+            answer: Err(refusal),
             queue,
             word,
         },
-        Asked::Yes => past::seat_set(table, queue, word, scratch, seat, reading),
+        Ok(()) => past::seat_set(table, queue, word, scratch, seat, reading),
     }
 }
 
@@ -45,14 +44,13 @@ pub fn look_up(
 ) -> Replied
     ensures { RosterPromise (store table.old queue scratch.old) word (look_up seat) (roster_reply result.answer) (store table.new result.queue scratch.new) result.word }
 {
-    let asked = ask::seat_asked(table, queue, scratch, seat);
-    match asked {
-        Asked::No(refusal) => Replied {
-            answer: RosterAnswer::Refused(refusal),
+    match ask::seat_asked(table, queue, scratch, seat) {
+        Err(refusal) => Replied {
+            answer: Err(refusal),
             queue,
             word,
         },
-        Asked::Yes => past::seat_read(table, queue, word, scratch, seat),
+        Ok(()) => past::seat_read(table, queue, word, scratch, seat),
     }
 }
 
@@ -60,14 +58,13 @@ pub fn look_up(
 pub fn remove(table: &mut [u16], queue: Queue, word: u16, scratch: &mut [u16], seat: u16) -> Replied
     ensures { RosterPromise (store table.old queue scratch.old) word (remove seat) (roster_reply result.answer) (store table.new result.queue scratch.new) result.word }
 {
-    let asked = ask::seat_asked(table, queue, scratch, seat);
-    match asked {
-        Asked::No(refusal) => Replied {
-            answer: RosterAnswer::Refused(refusal),
+    match ask::seat_asked(table, queue, scratch, seat) {
+        Err(refusal) => Replied {
+            answer: Err(refusal),
             queue,
             word,
         },
-        Asked::Yes => past::seat_removed(table, queue, word, scratch, seat),
+        Ok(()) => past::seat_removed(table, queue, word, scratch, seat),
     }
 }
 
@@ -81,13 +78,12 @@ pub fn count(
 ) -> Replied
     ensures { RosterPromise (store table.old queue scratch.old) word (count threshold) (roster_reply result.answer) (store table.new result.queue scratch.new) result.word }
 {
-    let asked = roster_list::store_asked(table, queue, scratch);
-    match asked {
-        Asked::No(refusal) => Replied {
-            answer: RosterAnswer::Refused(refusal),
+    match roster_list::store_asked(table, queue, scratch) {
+        Err(refusal) => Replied {
+            answer: Err(refusal),
             queue,
             word,
         },
-        Asked::Yes => past::seats_counted(table, queue, word, scratch, threshold),
+        Ok(()) => past::seats_counted(table, queue, word, scratch, threshold),
     }
 }

@@ -5,7 +5,7 @@ ghost use Rattle.readings.specs.Answers.{roster_reply};
 ghost use Rattle.roster.specs.Promise.{Past};
 
 use machine::Queue;
-use readings::{Replied, RosterAnswer};
+use readings::Replied;
 use roster_changes::{add, drop_first, link_past, read_out, replace};
 use roster_list::{atom, find};
 
@@ -28,7 +28,7 @@ pub fn seat_set(
     let changed = replace(table, next, scratch, at, reading);
     let after = changed.queue;
     Replied {
-        answer: RosterAnswer::Done(0),
+        answer: Ok(Some(0)),
         queue: after,
         word,
     }
@@ -48,7 +48,7 @@ pub fn seat_read(
     let at = place.at;
     if at == 0 {
         return Replied {
-            answer: RosterAnswer::Absent,
+            answer: Ok(None),
             queue: next,
             word,
         };
@@ -57,7 +57,7 @@ pub fn seat_read(
     let after = read.queue;
     let reading = read.word;
     Replied {
-        answer: RosterAnswer::Done(reading),
+        answer: Ok(Some(reading)),
         queue: after,
         word,
     }
@@ -78,7 +78,7 @@ pub fn seat_removed(
     let before = place.before;
     if at == 0 {
         return Replied {
-            answer: RosterAnswer::Absent,
+            answer: Ok(None),
             queue: next,
             word,
         };
@@ -88,7 +88,7 @@ pub fn seat_removed(
         let after = dropped.queue;
         let first = dropped.word;
         return Replied {
-            answer: RosterAnswer::Done(0),
+            answer: Ok(Some(0)),
             queue: after,
             word: first,
         };
@@ -96,7 +96,7 @@ pub fn seat_removed(
     let linked = link_past(table, next, word, scratch, at, before - 1);
     let after = linked.queue;
     Replied {
-        answer: RosterAnswer::Done(0),
+        answer: Ok(Some(0)),
         queue: after,
         word,
     }
@@ -115,7 +115,7 @@ pub fn seats_counted(
     let after = tallied.queue;
     let number = tallied.count;
     Replied {
-        answer: RosterAnswer::Done(number),
+        answer: Ok(Some(number)),
         queue: after,
         word,
     }

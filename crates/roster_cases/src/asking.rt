@@ -13,7 +13,7 @@ fn seat_asked(seat: u16) -> Result<(), Refusal> {
 
 // As a step is asked.
 fn store_asked(table: &[u16], queue: &Queue, scratch: &[u16]) -> Result<(), Refusal> {
-    if !questions::in_range(table, queue.place, queue.count) {
+    if !questions::in_range(table, queue) {
         return Err(Refusal::StoreOutOfRange);
     }
     if !questions::scratch_enough(table, scratch) {

@@ -3,7 +3,7 @@ ghost use Rattle.std.specs.Prelude.{◌≡◌, suc, ◌≤◌, length};
 ghost use Rattle.machine.specs.Table.{root_count, table_length, word_at};
 ghost use Rattle.roster_cases.specs.Figures.{cells_of, root_counts, root_count_of, used_cells};
 
-use machine::AuditAnswer;
+use machine::{AuditAnswer, Finding};
 use state_lines::Store;
 use std::io;
 
@@ -68,9 +68,9 @@ fn cells_in_use(table: &[u16]) -> u64
 // An audit's reply as the figure that the lists write: 0 where the store is sound, 9 where the audit is refused, else the number of the rule that is broken.
 fn verdict(answer: AuditAnswer) -> u16 {
     match answer {
-        AuditAnswer::Sound => 0,
-        AuditAnswer::Broken(rule) => rule.number(),
-        AuditAnswer::Refused(_) => 9,
+        Ok(Finding::Sound) => 0,
+        Ok(Finding::Broken(rule)) => rule.number(),
+        Err(_) => 9,
     }
 }
 

@@ -6,7 +6,7 @@ mod figures;
 
 use asking::asked;
 use figures::write_figures;
-use machine::{FreshAnswer, Queue, Refusal};
+use machine::{Queue, Refusal};
 use readings::{Replied, RosterAnswer};
 use state_lines::{Call, Numbers, Runs, SCRATCH, Store};
 use std::io;
@@ -46,13 +46,13 @@ fn fresh(table: &mut [u16], queue: Queue, word: u16, c: u16) -> Replied {
     let done = store::fresh(table, queue, c);
     let queue = done.queue;
     match done.answer {
-        FreshAnswer::Done => Replied {
-            answer: RosterAnswer::Done(0),
+        Ok(()) => Replied {
+            answer: Ok(Some(0)),
             queue,
             word: 0,
         },
-        FreshAnswer::Refused(refusal) => Replied {
-            answer: RosterAnswer::Refused(refusal),
+        Err(refusal) => Replied {
+            answer: Err(refusal),
             queue,
             word,
         },
@@ -89,24 +89,21 @@ fn take(call: Call, store: &mut Store, word: &mut u16) -> RosterAnswer {
             *word = after;
             answer
         }
-        Err(refusal) => RosterAnswer::Refused(refusal),
+        Err(refusal) => Err(refusal),
     }
 }
 
 fn write_answer<W: io::Write>(writer: &mut W, answer: RosterAnswer) {
     let _ = match answer {
-        RosterAnswer::Done(value) => writeln!(writer, " OK {value}"),
-        RosterAnswer::Absent => writeln!(writer, " ABSENT"),
-        RosterAnswer::Refused(refusal) => writeln!(writer, " NO {}", refusal.number()),
+        Ok(Some(value)) => writeln!(writer, " OK {value}"),
+        Ok(None) => writeln!(writer, " ABSENT"),
+        Err(refusal) => writeln!(writer, " NO {}", refusal.number()),
     };
 }
 
 // Every refusal but that for want of a free cell changes nothing.
 fn changes_nothing(answer: RosterAnswer) -> bool {
-    match answer {
-        RosterAnswer::Done(_) | RosterAnswer::Absent => false,
-        RosterAnswer::Refused(refusal) => !matches!(refusal, Refusal::NoFreeCell),
-    }
+    matches!(answer, Err(refusal) if refusal != Refusal::NoFreeCell)
 }
 
 // A call that the papers decide. Whether table, queue and scratch are as before is told by the checksum of the store, the same for the same words and hardly
@@ -138,11 +135,11 @@ fn is_allowed(call: RosterCall, early: Result<(), Refusal>, answer: RosterAnswer
     match call {
         RosterCall::Fresh(_) => true,
         _ => match (early, answer) {
-            (Ok(()), RosterAnswer::Refused(refusal)) => {
-                matches!(call, RosterCall::Set { .. }) && matches!(refusal, Refusal::NoFreeCell)
+            (Ok(()), Err(refusal)) => {
+                matches!(call, RosterCall::Set { .. }) && refusal == Refusal::NoFreeCell
             }
             (Ok(()), _) => true,
-            (Err(early), RosterAnswer::Refused(refusal)) => refusal.number() == early.number(),
+            (Err(early), Err(refusal)) => refusal == early,
             (Err(_), _) => false,
         },
     }

@@ -5,7 +5,7 @@ ghost use Rattle.readings.specs.Answers.{roster_reply};
 ghost use Rattle.roster_changes.specs.Changes.{ReadsOut, Replaces, Adds, Links, DropsFirst, Relinks, LinksPast};
 
 use machine::{Queue, Refusal, RowCall};
-use readings::{Replied, RosterAnswer};
+use readings::Replied;
 use roster_list::{Settled, atom, entry_word, pass, settle, value_of};
 
 // The reading there.
@@ -52,13 +52,13 @@ fn link(table: &mut [u16], queue: Queue, word: u16, scratch: &mut [u16], pair: u
         let released = settle(table, next, scratch, RowCall::Down(pair, 1));
         let after = released.queue;
         return Replied {
-            answer: RosterAnswer::Refused(Refusal::NoFreeCell),
+            answer: Err(Refusal::NoFreeCell),
             queue: after,
             word,
         };
     }
     Replied {
-        answer: RosterAnswer::Done(0),
+        answer: Ok(Some(0)),
         queue: next,
         word: first,
     }
@@ -85,7 +85,7 @@ pub fn add(
     let pair = made.word;
     if pair == 0 {
         return Replied {
-            answer: RosterAnswer::Refused(Refusal::NoFreeCell),
+            answer: Err(Refusal::NoFreeCell),
             queue: next,
             word,
         };

@@ -1,4 +1,5 @@
 -- Questions 1 and 2 asked through the store.
+use Rattle.std.specs.Prelude.{Ok, Err}
 use mathlib.Core.Path.{◌≡◌, refl, sym}
 use mathlib.Core.Logic.{⊎_elim}
 use mathlib.Core.Bool.{true, false}
@@ -7,7 +8,8 @@ use Prim.Native.Nat.{ℕ}
 use native.Mathlib.Omega.{arith}
 use Rattle.machine.specs.declared.Queue.{Queue}
 use Rattle.machine.specs.declared.Refusal.{Refusal}
-use Rattle.machine.specs.declared.Asked.{Asked}
+use Rattle.machine.specs.declared.Step.{Step}
+use Rattle.machine.specs.Answers.{Asked, StepAnswer, step_reply}
 use Rattle.machine.specs.Answers.{refusal_number}
 use Rattle.machine.specs.Queue.{empty_queue}
 use Rattle.machine.specs.Calls.{row, step, car, Reply, value, refused, idle, applied, store}
@@ -29,7 +31,7 @@ no_idle e = let z : ◌≡◌ {A = ℕ} 0 1 = cc in omega arith
 
 -- question 1 says "no"
 pub asks_no : {t : List ℕ} {q : Queue} {f : Refusal} {t₁ : List ℕ} {q₁ : Queue} → (s : List ℕ) → Promise (store t q []) (row (car 0)) (refused (refusal_number f)) (store t₁ q₁ [])
-    → Asks (ask_store (store t q s)) t s (Asked.No f) t₁ s
+    → Asks (ask_store (store t q s)) t s (Err f) t₁ s
 unfolding first_no
 asks_no {t} {q} {f} s p =
     let a = nil_asks t q p in
@@ -46,7 +48,7 @@ asks_then {t} {q} {t₁ = t₁} p g =
     k q in_range_lem
 
 pub scratch_no : {t s : List ℕ} {f : Refusal} {t₂ : List ℕ} {q₂ : Queue} {s₂ : List ℕ} → Promise (store t empty_queue s) step (refused (refusal_number f)) (store t₂ q₂ s₂)
-    → ScratchAsks t s (Asked.No f) t₂ s₂
+    → ScratchAsks t s (Err f) t₂ s₂
 unfolding first_no
 scratch_no {t} {s} {f} p q e =
     let a = idle_asks t q s e p in
@@ -54,16 +56,15 @@ scratch_no {t} {s} {f} p q e =
     record { number = rw (e, short) (same_number (refusal_number f) 2 (a.3 short)); table = a.0; scratch = a.1 }
 
 pub scratch_yes : {t s : List ℕ} {reply : Reply} {t₂ : List ℕ} {q₂ : Queue} {s₂ : List ℕ} → Promise (store t empty_queue s) step reply (store t₂ q₂ s₂)
-    → ((n : ℕ) → reply ≡ refused n → ⊥) → ScratchAsks t s Asked.Yes t₂ s₂
+    → ((n : ℕ) → reply ≡ refused n → ⊥) → ScratchAsks t s (Ok tt) t₂ s₂
 unfolding first_no
 scratch_yes {t} {s} p none q e =
     let a = idle_asks t q s e p in
     let enough : scratch_enough t s ≡ true = ⊎_elim (λ d. d) (λ d. absurd (none 2 (a.3 d))) (tested (scratch_enough t s)) in
     record { number = rw (e, enough) refl; table = a.0; scratch = a.1 }
 
-pub scratch_idle : {t s t₂ : List ℕ} {q₂ : Queue} {s₂ : List ℕ} → Promise (store t empty_queue s) step idle (store t₂ q₂ s₂) → ScratchAsks t s Asked.Yes t₂ s₂
-scratch_idle p = scratch_yes p (λ n e. no_idle (sym e))
-
-pub scratch_applied : {t s : List ℕ} {k m : ℕ} {t₂ : List ℕ} {q₂ : Queue} {s₂ : List ℕ} → Promise (store t empty_queue s) step (applied k m) (store t₂ q₂ s₂)
-    → ScratchAsks t s Asked.Yes t₂ s₂
-scratch_applied p = scratch_yes p (λ n e. let z : ◌≡◌ {A = ℕ} 0 1 = cc in omega arith)
+-- an accepted step says "yes", whatever it did
+pub scratch_done : {t s : List ℕ} {a : StepAnswer} {done : Step} {t₂ : List ℕ} {q₂ : Queue} {s₂ : List ℕ} → a ≡ Ok done
+    → Promise (store t empty_queue s) step (step_reply a) (store t₂ q₂ s₂) → ScratchAsks t s (Ok tt) t₂ s₂
+scratch_done {done = Step.Idle} e p = scratch_yes (rw e at p) (λ n d. no_idle (sym d))
+scratch_done {done = Step.Applied k m} e p = scratch_yes (rw e at p) (λ n d. let z : ◌≡◌ {A = ℕ} 0 1 = cc in omega arith)

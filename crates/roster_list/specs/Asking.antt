@@ -1,7 +1,7 @@
 -- Questions asked of any store with nothing changed.
 use Rattle.std.specs.Prelude.{◌≡◌, true, List, ℕ}
 use Rattle.machine.specs.declared.Queue.{Queue}
-use Rattle.machine.specs.declared.Asked.{Asked}
+use Rattle.machine.specs.Answers.{Asked}
 use Rattle.machine.specs.Answers.{asked_number}
 use Rattle.machine.specs.Calls.{store}
 use Rattle.machine.specs.Questions.{Question, first_no, in_range}

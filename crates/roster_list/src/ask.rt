@@ -3,7 +3,7 @@ ghost use Rattle.machine.specs.Calls.{store};
 ghost use Rattle.readings.specs.Calls.{ask_store};
 ghost use Rattle.roster_list.specs.Asking.{Asks, ScratchAsks};
 
-use machine::{Asked, Queue, RowAnswer, StepAnswer};
+use machine::{Asked, Queue};
 
 // Question 2, by a step that is lent an empty queue: it is idle, whatever the table holds.
 fn scratch_asked(table: &mut [u16], scratch: &mut [u16]) -> Asked
@@ -11,11 +11,8 @@ fn scratch_asked(table: &mut [u16], scratch: &mut [u16]) -> Asked
 {
     let stepped = store::step(table, Queue::empty(), scratch);
     let answer = stepped.answer;
-    match answer {
-        StepAnswer::Refused(refusal) => Asked::No(refusal),
-        StepAnswer::Idle => Asked::Yes,
-        StepAnswer::Applied { kind: _, freed: _ } => Asked::Yes,
-    }
+    answer?;
+    Ok(())
 }
 
 // Questions 1 and 2, as a step is asked them. A read of nil is asked 1 and 4 alone.
@@ -23,9 +20,7 @@ pub fn store_asked(table: &mut [u16], queue: Queue, scratch: &mut [u16]) -> Aske
     ensures { Asks (ask_store (store table.old queue scratch.old)) table.old scratch.old result table.new scratch.new }
 {
     let reply = store::car(table, queue, 0);
-    let answer = reply.answer;
-    match answer {
-        RowAnswer::Refused(refusal) => Asked::No(refusal),
-        RowAnswer::Done(_) => scratch_asked(table, scratch),
-    }
+    let read = reply.answer;
+    read?;
+    scratch_asked(table, scratch)
 }

@@ -15,10 +15,7 @@ pub struct Settled {
 fn word_of(answer: RowAnswer) -> u16
     ensures { result ≡ word_of (row_reply answer) }
 {
-    match answer {
-        RowAnswer::Done(word) => word,
-        RowAnswer::Refused(_) => 0,
-    }
+    answer.unwrap_or(0)
 }
 
 pub fn settle(table: &mut [u16], queue: Queue, scratch: &mut [u16], call: RowCall) -> Settled

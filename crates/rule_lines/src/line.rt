@@ -7,7 +7,7 @@ ghost use Rattle.rule_lines.specs.Stores.{PutsText, Answers, AnswersHeld};
 use crate::hold::clean;
 use crate::kept::{capped, keep};
 use base_ten::put::{put_counted, put_word};
-use machine::{Queue, RowAnswer};
+use machine::Queue;
 
 // The most bytes of an answer: a text of 64 pairs has no more.
 const ANSWER_BYTES: usize = 645;
@@ -58,11 +58,11 @@ fn answer(
     let next = reply.queue;
     let read = reply.answer;
     match read {
-        RowAnswer::Refused(refusal) => Answered {
+        Err(refusal) => Answered {
             queue: next,
             end: put_counted(out, at, b"NO ", refusal.number()),
         },
-        RowAnswer::Done(word) => {
+        Ok(word) => {
             let end = put_text(table, next, word, out, at);
             Answered {
                 queue: clean(table, next, scratch, word),

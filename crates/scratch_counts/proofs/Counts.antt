@@ -23,6 +23,10 @@ use Rattle.scratch_counts.specs.Counts.{CountUp, CountDown, Below}
 pub cell_bounds : (c w : ℕ) {r : Bool} → r ≡ is_cell c w → r ≡ true → (1 ≤ w) × (w ≤ c)
 cell_bounds c w e h = bounds c w (sym e ∙ h)
 
+-- and it has a word in the scratch
+pub cell_place : (c w n : ℕ) {r : Bool} → r ≡ is_cell c w → r ≡ true → scratch_words c ≤ n → w - 1 < n
+cell_place c w n e h m = let b = cell_bounds c w e h in word_within_lem c (w - 1) n (omega arith) m
+
 -- the scratch is enough for the C that the code read
 pub scratch_of : (c n : ℕ) (t : List ℕ) → c ≡ capacity t → scratch_words (capacity t) ≤ n → scratch_words c ≤ n
 scratch_of c n t e h = rw e h
@@ -73,19 +77,6 @@ module _ (c w v : ℕ) (s : List ℕ) (number : 1 ≤ w) (low : w ≤ c) (enough
         (tested (eqb w (suc i)));
     past = past;
   }
-
--- a count that is 0 already
-pub down_zero : (c w : ℕ) (s : List ℕ) → get_or s (w - 1) 0 ≡ 0 → CountDown c w s s
-down_zero c w s e = record {
-  each = λ i l. ⊎_elim
-      (λ b. let d = eqb-true w (suc i) b in omega (arith, matching_few w (suc i), ap (λ (n : ℕ). get_or s n 0) (at i d)))
-      (λ b. omega (arith, matching_other w (suc i) 1 (eqb-false w (suc i) b)))
-      (tested (eqb w (suc i)));
-  past = refl;
-}
-  where
-    at : (i : ℕ) → w ≡ suc i → w - 1 ≡ i
-    at i d = omega arith
 
 -- one more for one word
 pub below_more : (c w n : ℕ) (s s' : List ℕ) → Below c n s → CountUp c w s s' → Below c (n + 1) s'

@@ -8,25 +8,25 @@ ghost use Rattle.scratch_counts.specs.Counts.{CountUp, CountDown, RoomForOne};
 use questions::is_cell;
 
 // One more for the word w, if it is a cell.
+#[tactic(auto, unfolding(machine::specs::Table::scratch_words, machine::specs::Words::is_cell))]
 pub fn raise(scratch: &mut [u16], c: u16, w: u16)
     requires { (scratch_words c ≤ length scratch.old) × RoomForOne c scratch.old }
     ensures { CountUp c w scratch.old scratch.new }
 {
     if is_cell(c, w) {
         let index = (w - 1) as usize;
-        scratch[index] = scratch[index] + 1;
+        scratch[index] += 1;
     }
 }
 
 // One less; 0 stays 0.
+#[tactic(auto, unfolding(machine::specs::Table::scratch_words, machine::specs::Words::is_cell))]
 pub fn lower(scratch: &mut [u16], c: u16, w: u16)
     requires { scratch_words c ≤ length scratch.old }
     ensures { CountDown c w scratch.old scratch.new }
 {
     if is_cell(c, w) {
         let index = (w - 1) as usize;
-        if 0 < scratch[index] {
-            scratch[index] = scratch[index] - 1;
-        }
+        scratch[index] = scratch[index].saturating_sub(1);
     }
 }

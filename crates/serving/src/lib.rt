@@ -2,18 +2,26 @@
 #![tactic(auto)]
 
 ghost use Rattle.std.specs.Prelude.{◌≡◌};
-ghost use Rattle.machine.specs.Answers.{row_reply, fresh_reply, step_reply};
+ghost use Rattle.machine.specs.Calls.{refused};
+ghost use Rattle.machine.specs.Answers.{refusal_number, row_reply, fresh_reply, step_reply};
 ghost use Rattle.line_text.specs.Verdicts.{verdict_of};
 
 use line_text::Verdict;
-use machine::{FreshAnswer, RowAnswer, StepAnswer};
+use machine::{FreshAnswer, Refusal, RowAnswer, Step, StepAnswer};
+
+// Of a refused call, whichever.
+fn refused(refusal: Refusal) -> Verdict
+    ensures { result ≡ verdict_of (refused (refusal_number refusal)) }
+{
+    Verdict::No(refusal.number())
+}
 
 pub fn fresh_verdict(answer: FreshAnswer) -> Verdict
     ensures { result ≡ verdict_of (fresh_reply answer) }
 {
     match answer {
-        FreshAnswer::Done => Verdict::Ok(0),
-        FreshAnswer::Refused(refusal) => Verdict::No(refusal.number()),
+        Ok(()) => Verdict::Ok(0),
+        Err(refusal) => refused(refusal),
     }
 }
 
@@ -21,8 +29,8 @@ pub fn row_verdict(answer: RowAnswer) -> Verdict
     ensures { result ≡ verdict_of (row_reply answer) }
 {
     match answer {
-        RowAnswer::Done(w) => Verdict::Ok(w),
-        RowAnswer::Refused(refusal) => Verdict::No(refusal.number()),
+        Ok(w) => Verdict::Ok(w),
+        Err(refusal) => refused(refusal),
     }
 }
 
@@ -30,8 +38,8 @@ pub fn step_verdict(answer: StepAnswer) -> Verdict
     ensures { result ≡ verdict_of (step_reply answer) }
 {
     match answer {
-        StepAnswer::Idle => Verdict::Idle,
-        StepAnswer::Applied { kind: _, freed } => Verdict::Ok(freed),
-        StepAnswer::Refused(refusal) => Verdict::No(refusal.number()),
+        Ok(Step::Idle) => Verdict::Idle,
+        Ok(Step::Applied { kind: _, freed }) => Verdict::Ok(freed),
+        Err(refusal) => refused(refusal),
     }
 }

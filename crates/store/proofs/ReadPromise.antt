@@ -10,7 +10,7 @@ use lib.ListN.{length}
 use Rattle.notation.specs.Trees.{Tree, nil, atom, pair, pairs}
 use Rattle.notation.specs.Parse.{parse, meaning}
 use Rattle.machine.specs.declared.Queue.{Queue}
-use Rattle.machine.specs.declared.RowAnswer.{RowAnswer}
+use Rattle.machine.specs.Answers.{RowAnswer}
 use Rattle.machine.specs.Range.{select}
 use Rattle.machine.specs.Words.{is_cell}
 use Rattle.machine.specs.Table.{left, capacity, first_free, word_at, is_free}

@@ -6,8 +6,8 @@ use mathlib.Core.List.{List, []}
 use Prim.Native.Nat.{ℕ, zero, suc}
 use native.Mathlib.Omega.{arith}
 use Rattle.machine.specs.declared.Queue.{Queue}
-use Rattle.machine.specs.declared.RowAnswer.{RowAnswer}
-use Rattle.machine.specs.declared.FreshAnswer.{FreshAnswer}
+use Rattle.machine.specs.Answers.{RowAnswer}
+use Rattle.machine.specs.Answers.{FreshAnswer}
 use Rattle.machine.specs.Queue.{Arrays}
 use Rattle.machine.specs.Packets.{kind_of, contains}
 use Rattle.machine.specs.Calls.{RowCall, car, cdr, cons, set_left, set_right, up, down, Call, row, fresh, Reply, value, refused, Store, store, packet_of, reads_nil}

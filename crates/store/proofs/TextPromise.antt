@@ -4,7 +4,7 @@ use mathlib.Core.List.{List, []}
 use Prim.Native.Nat.{ℕ}
 use lib.ListN.{length}
 use Rattle.machine.specs.declared.Queue.{Queue}
-use Rattle.machine.specs.declared.LengthAnswer.{LengthAnswer}
+use Rattle.machine.specs.Answers.{LengthAnswer}
 use Rattle.machine.specs.Calls.{write, store}
 use Rattle.machine.specs.Promise.{Promise, TextPut, TextHanded}
 use Rattle.machine.proofs.Kept.{kept}

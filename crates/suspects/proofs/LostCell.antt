@@ -3,11 +3,9 @@ use mathlib.Core.Path.{◌≡◌, refl, sym, ◌∙◌}
 use mathlib.Core.Logic.{⊎_elim}
 use mathlib.Core.Bool.{true, false, not, ◌&&◌}
 use mathlib.Core.List.{List, [], ◌∷◌}
-use Prim.Native.Nat.{ℕ, suc, pred, ◌+◌, ◌-◌, ◌/◌, ◌%◌, ◌≤◌, ◌<◌}
+use Prim.Native.Nat.{ℕ, suc, pred, ◌+◌, ◌-◌, ◌/◌, ◌≤◌, ◌<◌}
 use native.Mathlib.Omega.{arith}
 use lib.Dec.{eqb, ltb}
-use lib.ListN.{set, replicate, length-set}
-use lib.Seq.{get_or-set_same}
 use borrow.Author.Tests.{eqb-true, eq-eqb, ltb-true, not-false}
 use Rattle.machine.specs.Words.{is_cell}
 use Rattle.machine.specs.Range.{matching, occurrences}
@@ -21,6 +19,7 @@ use Rattle.machine.proofs.Range.{tested, same_tests, or-false, and_both, and_fir
 use Rattle.machine.proofs.Words.{cell_index, cell_number_lem}
 use Rattle.machine.proofs.Lists.{at_most_one}
 use Rattle.walks.specs.Walk.{most_walked, Starts}
+use Rattle.walks.specs.Tally.{Tally, tally_of}
 use Rattle.suspects.specs.Dead.{most_suspects}
 use Rattle.suspects.proofs.Members.{contains_one}
 use Rattle.suspects.proofs.Reaches.{reached_same}
@@ -66,21 +65,16 @@ module _ (t : List ℕ) (w : ℕ) (lost : stays_root t w ≡ false) where
       (λ m. let e : w - 1 ≡ i = eqb-true (w - 1) i m in and_both (eq-eqb w (suc i) (omega (arith, lost_some))) (rw (← e, lost_no_root)))
       (λ m. eq-eqb (w - 1) i (omega (arith, eqb-true w (suc i) (and_first (eqb w (suc i)) (not (is_root t i)) m))))
 
-  pub first_starts : (most : ℕ) → most ≡ most_suspects c → TableShape t
-      → Starts t (set (replicate most_walked 0) 0 (w - 1)) (replicate most_walked 0) (set (replicate most_walked false) ((w - 1) % most_walked) true) most 1
-  first_starts most e shape = let r = most_range c in record {
+  pub first_starts : (most : ℕ) → most ≡ most_suspects c → TableShape t → (y : Tally) → y ≡ tally_of ((w - 1) ∷ []) (0 ∷ []) → Starts t y.cells y.counts most
+  first_starts most e shape y d = let r = most_range c in rw d (record {
     shape = shape;
-    list_size = refl;
-    inner_size = refl;
-    seen_size = length-set (replicate most_walked false) ((w - 1) % most_walked) true;
     few = omega (arith, r.0);
     within = omega (arith, r.1);
     below = λ i m. omega (arith, only i m, lost_below);
     no_roots = λ i m. let e = only i m in rw (← e) lost_no_root;
     once = only_once;
     uncounted = refl;
-    filtered = λ i m. let e = only i m in rw (← e) (get_or-set_same (replicate most_walked false) ((w - 1) % most_walked) true false (omega arith));
-  }
+  })
 
   pub reached_suspect : (i : ℕ) → reached_by c (contains ((w - 1) ∷ [])) (leads_on t) i ≡ is_suspect t w i
   unfolding is_suspect

@@ -8,7 +8,7 @@ use native.Mathlib.Omega.{arith}
 use native.Mathlib.Nat.{not-suc-le-zero}
 use lib.Dec.{eqb}
 use lib.ListN.{length, get_or, take}
-use lib.Seq.{take-suc, length-take-le, get_or-take}
+use lib.Seq.{take-suc}
 use borrow.Author.Tests.{eqb-true, le-ltb}
 use Rattle.machine.specs.Range.{occurrences}
 use Rattle.machine.specs.Packets.{contains}
@@ -32,9 +32,6 @@ contains_snoc xs x i = contains_append xs (x ∷ []) i ∙ ap (λ (b : Bool). co
 pub contains_take : (xs : List ℕ) (k i : ℕ) → k < length xs → contains (take (suc k) xs) i ≡ contains (take k xs) i || eqb (get_or xs k 0) i
 contains_take xs k i h = ap (λ (ys : List ℕ). contains ys i) (take-suc xs k 0 h) ∙ contains_snoc (take k xs) (get_or xs k 0) i
 
-pub contains_place : (xs : List ℕ) (n k : ℕ) → k < n → n ≤ length xs → contains (take n xs) (get_or xs k 0) ≡ true
-contains_place xs n k l h = contains_at (take n xs) k (get_or xs k 0) (rw (length-take-le n xs h) l) (get_or-take n xs k 0 l)
-
 -- in a list that has each number once
 pub once_tail : (x : ℕ) (xs : List ℕ) → Once (x ∷ xs) → Once xs
 unfolding occurrences
@@ -45,13 +42,12 @@ unfolding occurrences
 once_first x xs h = sym (occurs_contains x xs) ∙ le-ltb 0 (occurrences x xs) (omega (arith, h x, matching_same x x 1 refl))
 
 -- the word at a place is none of those before it
-pub once_new : (xs : List ℕ) (n k : ℕ) → k < n → n ≤ length xs → Once (take n xs) → contains (take k xs) (get_or xs k 0) ≡ false
+pub once_new : (xs : List ℕ) (k : ℕ) → k < length xs → Once xs → contains (take k xs) (get_or xs k 0) ≡ false
 unfolding contains
-once_new xs zero k l h o = absurd (not-suc-le-zero l)
-once_new [] (suc n) k l h o = absurd (not-suc-le-zero h)
-once_new (x ∷ xs) (suc n) zero l h o = refl
-once_new (x ∷ xs) (suc n) (suc k) l h o =
+once_new [] k l o = absurd (not-suc-le-zero l)
+once_new (x ∷ xs) zero l o = refl
+once_new (x ∷ xs) (suc k) l o =
     refuted (eqb x (get_or xs k 0) || contains (take k xs) (get_or xs k 0)) (λ e. ⊎_elim
-    (λ (d : eqb x (get_or xs k 0) ≡ true). not_both (rw (eqb-true x (get_or xs k 0) d) (contains_place xs n k (omega arith) (omega arith))) (once_first x (take n xs) o))
-    (λ d. not_both d (once_new xs n k (omega arith) (omega arith) (once_tail x (take n xs) o)))
+    (λ (d : eqb x (get_or xs k 0) ≡ true). not_both (rw (eqb-true x (get_or xs k 0) d) (contains_at xs k (get_or xs k 0) (omega arith) refl)) (once_first x xs o))
+    (λ d. not_both d (once_new xs k (omega arith) (once_tail x xs o)))
     (or_true (eqb x (get_or xs k 0)) (contains (take k xs) (get_or xs k 0)) e))

@@ -1,72 +1,52 @@
 -- Laws of the supported suspects: pushed one after the other, and who they are.
 use mathlib.Core.Path.{◌≡◌, refl, sym, ap, ap₂, ◌∙◌}
 use mathlib.Core.Logic.{⊎_elim}
-use mathlib.Core.Bool.{Bool, true, false, cond, ◌&&◌, ◌||◌, false≢true, and-true, and-false, and-or_distrib_right}
+use mathlib.Core.Bool.{Bool, true, false, cond, ◌&&◌, ◌||◌, and-true, and-false, and-or_distrib_right}
 use mathlib.Core.List.{List, [], ◌∷◌, ◌++◌, append-nil}
-use Prim.Native.Nat.{ℕ, zero, suc, ◌+◌, ◌%◌, ◌≤◌, ◌<◌}
+use Prim.Native.Nat.{ℕ, zero, suc, ◌+◌, ◌≤◌, ◌<◌}
 use native.Mathlib.Numerals.{add-one}
 use native.Mathlib.Omega.{arith}
 use lib.Dec.{eqb, ltb}
-use lib.ListN.{length, get_or, take, set, length-set}
-use lib.Seq.{take-suc, take-suc-set, set_out, get_or-set_same, get_or-set_other}
-use borrow.Author.Tests.{eqb-true, eqb-false, lt-ltb, le-ltb, ltb-true}
+use lib.ListN.{length, get_or, take, replicate, length-append}
+use lib.Seq.{take-suc, take_all}
+use Rattle.std.proofs.lemmas.List.{replicate-append-replicate}
+use borrow.Author.Tests.{eqb-true, lt-ltb, le-ltb, ltb-true}
 use Rattle.machine.specs.Range.{occurrences}
 use Rattle.machine.specs.Table.{cell_count, word_at}
 use Rattle.machine.specs.Packets.{contains}
-use Rattle.machine.proofs.Range.{tested, lt_or_ge, or_true, occurrences_append}
+use Rattle.machine.proofs.Range.{tested, occurrences_append}
 use Rattle.machine.proofs.Names.{occurs_contains}
 use Rattle.machine.proofs.Select.{contains_append}
-use Rattle.walks.specs.Walk.{most_walked}
+use Rattle.walks.specs.Tally.{Tally, tally_of}
 use Rattle.suspects.specs.Support.{supported_at, supported, Supports}
-use Rattle.suspects.proofs.Members.{Once, contains_one, contains_snoc, contains_take}
+use Rattle.suspects.proofs.Members.{Once, contains_one, contains_take}
 
--- the filter stays set where it was
-set_stays : (seen : List Bool) (j k : ℕ) → get_or seen k false ≡ true → get_or (set seen j true) k false ≡ true
-set_stays seen j k h = ⊎_elim here (λ e. get_or-set_other seen j k true false (eqb-false k j e) ∙ h) (tested (eqb k j))
-  where
-    here : eqb k j ≡ true → get_or (set seen j true) k false ≡ true
-    here e =
-        let d : k ≡ j = eqb-true k j e in
-        rw d (⊎_elim (λ l. get_or-set_same seen j true false l) (λ l. rw (set_out seen j true l) (rw d at h)) (lt_or_ge j (length seen)))
-
-module _ (t list inner kept : List ℕ) (seen : List Bool) (i k : ℕ) (h : Supports t list inner i kept seen k) where
+-- the suspect at place i
+module _ (t : List ℕ) (y : Tally) (i : ℕ) (kept : Tally) (h : Supports t y i kept) where
   abbrev index : ℕ
-  index = get_or list i 0
+  index = get_or y.cells i 0
 
-  pub supports_push : (r : ℕ) → i < most_walked → get_or inner i 0 < word_at t index cell_count → r ≡ k + 1
-      → Supports t list inner (suc i) (set kept k index) (set seen (index % most_walked) true) r
+  pub supports_push : (left : Tally) → get_or y.counts i 0 < word_at t index cell_count → left ≡ tally_of (kept.cells ++ index ∷ []) (kept.counts ++ 0 ∷ [])
+      → Supports t y (i + 1) left
   unfolding supported supported_at
-  supports_push r l m e =
-      let few = h.few in
-      let longer : take r (set kept k index) ≡ take k kept ++ (index ∷ []) = rw (e, add-one k) (take-suc-set kept k index (omega (arith, h.kept_size))) in record {
-        kept_size = length-set kept k index ∙ h.kept_size;
-        seen_size = length-set seen (index % most_walked) true ∙ h.seen_size;
-        few = omega arith;
-        exact = longer ∙ ap₂ ◌++◌ h.exact (sym (ap (λ (b : Bool). cond b (index ∷ []) []) (lt-ltb (get_or inner i 0) (word_at t index cell_count) m)));
-        filtered = rw longer filtered;
-      }
-    where
-      here : (j : ℕ) → index ≡ j → get_or (set seen (index % most_walked) true) (j % most_walked) false ≡ true
-      here j e = rw (← e) (get_or-set_same seen (index % most_walked) true false (omega (arith, h.seen_size)))
+  supports_push left m e = let few = h.few in rw (e, add-one i) (record {
+    few = omega (arith, length-append kept.cells (index ∷ []));
+    exact = ap₂ ◌++◌ h.exact (sym (ap (λ (b : Bool). cond b (index ∷ []) []) (lt-ltb (get_or y.counts i 0) (word_at t index cell_count) m)));
+    uncounted = ap (λ (ns : List ℕ). ns ++ 0 ∷ []) h.uncounted ∙ replicate-append-replicate (length kept.cells) 1 0
+        ∙ ap (λ (n : ℕ). replicate n 0) (sym (length-append kept.cells (index ∷ [])));
+  })
 
-      filtered : (j : ℕ) → contains (take k kept ++ (index ∷ [])) j ≡ true → get_or (set seen (index % most_walked) true) (j % most_walked) false ≡ true
-      filtered j m = ⊎_elim (λ o. set_stays seen (index % most_walked) (j % most_walked) (h.filtered j o)) (λ o. here j (eqb-true index j o))
-          (or_true (contains (take k kept) j) (eqb index j) (sym (contains_snoc (take k kept) index j) ∙ m))
-
-  pub supports_pass : word_at t index cell_count ≤ get_or inner i 0 → Supports t list inner (suc i) kept seen k
+  pub supports_pass : word_at t index cell_count ≤ get_or y.counts i 0 → Supports t y (i + 1) kept
   unfolding supported supported_at
-  supports_pass m = let few = h.few in record {
-    kept_size = h.kept_size;
-    seen_size = h.seen_size;
+  supports_pass m = let few = h.few in rw (add-one i) (record {
     few = omega arith;
-    exact = h.exact ∙ sym (ap (λ (b : Bool). supported t list inner i ++ cond b (index ∷ []) []) (le-ltb (get_or inner i 0) (word_at t index cell_count) m) ∙ append-nil (supported t list inner i));
-    filtered = h.filtered;
-  }
+    exact = h.exact ∙ sym (ap (λ (b : Bool). supported t y.cells y.counts i ++ cond b (index ∷ []) []) (le-ltb (get_or y.counts i 0) (word_at t index cell_count) m) ∙ append-nil (supported t y.cells y.counts i));
+    uncounted = h.uncounted;
+  })
 
-pub supports_none : (t list inner kept : List ℕ) (seen : List Bool) → length kept ≡ most_walked → length seen ≡ most_walked → Supports t list inner 0 kept seen 0
+pub supports_none : (t : List ℕ) (y kept : Tally) → kept ≡ tally_of [] [] → Supports t y 0 kept
 unfolding supported
-supports_none t list inner kept seen k s =
-    record { kept_size = k; seen_size = s; few = omega arith; exact = refl; filtered = λ i m. absurd (false≢true (unfold contains in m)) }
+supports_none t y kept e = rw e (record { few = omega arith; exact = refl; uncounted = refl })
 
 -- each stands at most as often as in the list
 module _ (t list inner : List ℕ) where
@@ -85,13 +65,14 @@ module _ (t list inner : List ℕ) where
       rw (take-suc list n 0 l, occurrences_append i (take n list) (get_or list n 0 ∷ []), occurrences_append i (supported t list inner n) (supported_at t list inner n))
       (omega (arith, supported_occurs n i (omega arith), at_most n i))
 
-  pub supported_once : (n : ℕ) → n ≤ length list → Once (take n list) → Once (supported t list inner n)
-  supported_once n l o i = omega (arith, o i, supported_occurs n i l)
+  pub supported_once : Once list → Once (supported t list inner (length list))
+  supported_once o i = omega (arith, o i, supported_occurs (length list) i (omega arith), ap (occurrences i) (take_all (length list) list (omega arith)))
 
-  pub supported_listed : (n : ℕ) → n ≤ length list → (i : ℕ) → contains (supported t list inner n) i ≡ true → contains (take n list) i ≡ true
-  supported_listed n l i m =
-      let some = ltb-true 0 (occurrences i (supported t list inner n)) (occurs_contains i (supported t list inner n) ∙ m) in
-      sym (occurs_contains i (take n list)) ∙ lt-ltb 0 (occurrences i (take n list)) (omega (arith, supported_occurs n i l))
+  pub supported_listed : (i : ℕ) → contains (supported t list inner (length list)) i ≡ true → contains list i ≡ true
+  supported_listed i m =
+      let some = ltb-true 0 (occurrences i (supported t list inner (length list))) (occurs_contains i (supported t list inner (length list)) ∙ m) in
+      sym (occurs_contains i list) ∙ lt-ltb 0 (occurrences i list)
+      (omega (arith, supported_occurs (length list) i (omega arith), ap (occurrences i) (take_all (length list) list (omega arith))))
 
   -- who they are, where a function tells how many pointers come to each
   module _ (pointers : ℕ → ℕ) where
@@ -110,12 +91,18 @@ module _ (t list inner : List ℕ) where
         same : eqb x i ≡ true → eqb x i && ltb (pointers x) (word_at t x cell_count) ≡ eqb x i && ltb (pointers i) (word_at t i cell_count)
         same o = ap (λ (j : ℕ). eqb x i && ltb (pointers j) (word_at t j cell_count)) (eqb-true x i o)
 
-    pub supported_members : (n : ℕ) → n ≤ length list → ((k : ℕ) → k < n → get_or inner k 0 ≡ pointers (get_or list k 0)) → (i : ℕ)
+    members_before : (n : ℕ) → n ≤ length list → ((k : ℕ) → k < n → get_or inner k 0 ≡ pointers (get_or list k 0)) → (i : ℕ)
         → contains (supported t list inner n) i ≡ contains (take n list) i && ltb (pointers i) (word_at t i cell_count)
     unfolding supported
-    supported_members zero l e i = unfold contains in refl
-    supported_members (suc n) l e i =
+    members_before zero l e i = unfold contains in refl
+    members_before (suc n) l e i =
         contains_append (supported t list inner n) (supported_at t list inner n) i
-        ∙ ap₂ ◌||◌ (supported_members n (omega arith) (λ k m. e k (omega arith)) i) (member_at n i (e n (omega arith)))
+        ∙ ap₂ ◌||◌ (members_before n (omega arith) (λ k m. e k (omega arith)) i) (member_at n i (e n (omega arith)))
         ∙ sym (and-or_distrib_right (contains (take n list) i) (eqb (get_or list n 0) i) (ltb (pointers i) (word_at t i cell_count)))
         ∙ ap (λ (b : Bool). b && ltb (pointers i) (word_at t i cell_count)) (sym (contains_take list n i l))
+
+    pub supported_members : ((k : ℕ) → k < length list → get_or inner k 0 ≡ pointers (get_or list k 0)) → (i : ℕ)
+        → contains (supported t list inner (length list)) i ≡ contains list i && ltb (pointers i) (word_at t i cell_count)
+    supported_members e i =
+        members_before (length list) (omega arith) e i
+        ∙ ap (λ (xs : List ℕ). contains xs i && ltb (pointers i) (word_at t i cell_count)) (take_all (length list) list (omega arith))

@@ -1,5 +1,6 @@
 -- The dead cells that the local way finds.
-use Rattle.std.specs.Prelude.{◌≡◌, cond, List, ℕ, ◌+◌, ◌/◌, ◌<◌, ◌≤◌, ltb, length, take}
+use Rattle.std.specs.Prelude.{◌≡◌, cond, List, ℕ, ◌+◌, ◌/◌, ◌<◌, ltb, length, Option, MatchOption}
+use Rattle.arrayvec.specs.ArrayVec.{ArrayVec}
 use Rattle.machine.specs.Table.{capacity}
 use Rattle.machine.specs.Suspects.{suspects, local_dead}
 use Rattle.walks.specs.Walk.{most_walked}
@@ -8,8 +9,6 @@ use Rattle.walks.specs.Walk.{most_walked}
 unfoldable pub most_suspects : ℕ → ℕ
 most_suspects c = cond (ltb (4 + c / 16) most_walked) (4 + c / 16) most_walked
 
--- the first n words of the list are the dead cells' indices; n is more than 64 only where there are too many suspects
-pub record Finds (t : List ℕ) (w : ℕ) (dead : List ℕ) (n : ℕ) : Type 0 where
-  pub size : length dead ≡ most_walked
-  pub found : n ≤ most_walked → take n dead ≡ local_dead t w
-  pub many : most_walked < n → most_suspects (capacity t) < length (suspects t w)
+-- the list has the dead cells' indices; None only where there are too many suspects
+abbrev pub Finds : List ℕ → ℕ → Option (ArrayVec ℕ) → Type 0
+Finds t w r = MatchOption r (most_suspects (capacity t) < length (suspects t w)) (λ dead. dead.items ≡ local_dead t w)

@@ -7,7 +7,7 @@ ghost use Rattle.std.specs.Prelude.{◌*◌, ◌≤◌};
 use base_ten::Number;
 use base_ten::bytes::find;
 use base_ten::numbers::number;
-use machine::{Queue, RowAnswer, StepAnswer};
+use machine::{Queue, RowAnswer, Step, StepAnswer};
 use std::io;
 
 const CELLS: u16 = 64;
@@ -26,8 +26,8 @@ fn row_done(answer: RowAnswer) -> u64
     ensures { result ≤ 1 }
 {
     match answer {
-        RowAnswer::Done(_) => 1,
-        RowAnswer::Refused(_) => 0,
+        Ok(_) => 1,
+        Err(_) => 0,
     }
 }
 
@@ -35,9 +35,9 @@ fn step_done(answer: StepAnswer) -> u64
     ensures { result ≤ 1 }
 {
     match answer {
-        StepAnswer::Applied { kind: _, freed: _ } => 1,
-        StepAnswer::Idle => 0,
-        StepAnswer::Refused(_) => 0,
+        Ok(Step::Applied { kind: _, freed: _ }) => 1,
+        Ok(Step::Idle) => 0,
+        Err(_) => 0,
     }
 }
 

@@ -1,7 +1,7 @@
 -- Laws of walks.
 pub mod Places
 pub mod Tally
-pub mod Arrays
+pub mod Counting
 pub mod Pointers
 pub mod Walking
 pub mod Halfway

@@ -1,19 +1,22 @@
--- Laws of places in a list, and of one searched from its front.
+-- Laws of places in a list, and of the search for one.
 use mathlib.Core.Path.{◌≡◌, refl, sym, ◌∙◌}
-use mathlib.Core.Bool.{true, false}
+use mathlib.Core.Logic.{⊎_elim}
+use mathlib.Core.Bool.{Bool, true, false, false≢true}
 use mathlib.Core.List.{List, [], ◌∷◌}
-use Prim.Native.Nat.{ℕ, zero, suc, ◌+◌, ◌≤◌, ◌<◌}
+use Prim.Native.Nat.{ℕ, zero, suc, ◌<◌}
 use native.Mathlib.Nat.{not-suc-le-zero}
-use native.Mathlib.Numerals.{add-one}
 use native.Mathlib.Omega.{arith}
 use lib.Dec.{eqb}
-use lib.ListN.{length, get_or, take}
-use lib.Seq.{take-suc, length-take-le, get_or-take}
-use borrow.Author.Tests.{eq-eqb, ne_eqb, lt-ltb, le-ltb}
+use lib.ListN.{length, get_or, take, get_or-map, length-map}
+use borrow.Author.Tests.{eqb-true, eq-eqb, lt-ltb}
+use Rattle.std.proofs.Common.{Option, Some, None}
+use Rattle.std.specs.List.{position, position_or_len}
+use Rattle.std.proofs.lemmas.List.Quantifiers.{position-Some}
 use Rattle.machine.specs.Packets.{contains}
-use Rattle.machine.proofs.Range.{or_left, or_right}
-use Rattle.machine.proofs.Select.{contains_append}
+use Rattle.machine.proofs.Range.{tested, or_left, or_right}
+use Rattle.walks.specs.declared.Met.{Met}
 use Rattle.walks.specs.Walk.{Places}
+use Rattle.walks.specs.Tally.{tally}
 
 -- what stands in a list is in it
 pub contains_at : (xs : List ℕ) (k x : ℕ) → k < length xs → get_or xs k 0 ≡ x → contains xs x ≡ true
@@ -22,24 +25,33 @@ contains_at [] k x l e = absurd (not-suc-le-zero l)
 contains_at (y ∷ ys) zero x l e = or_left (contains ys x) (eq-eqb y x e)
 contains_at (y ∷ ys) (suc k) x l e = or_right (eqb y x) (contains_at ys k x (omega arith) e)
 
-module _ (list : List ℕ) (x : ℕ) where
-  pub place_none : contains (take 0 list) x ≡ false
+-- what stands past the end of a list of met cells
+abbrev pub none_met : Met
+none_met = record { cell = 0; pointers = 0 }
+
+module _ (x : ℕ) where
+  abbrev here : Met → Bool
+  here m = eqb m.cell x
+
+  present : (list : List Met) → contains (tally list).cells x ≡ true → position_or_len here list < length list
   unfolding contains
-  place_none = refl
+  present [] h = absurd (false≢true h)
+  present (m ∷ ms) h =
+      ⊎_elim (λ (e : eqb m.cell x ≡ true). rw e (omega arith)) (λ (e : eqb m.cell x ≡ false). rw e (omega (arith, present ms (rw e at h)))) (tested (eqb m.cell x))
 
-  pub place_more : (k : ℕ) → k < length list → contains (take k list) x ≡ false → (get_or list k 0 ≡ x → ⊥) → contains (take (k + 1) list) x ≡ false
-  place_more k l h d =
-      rw (add-one k, take-suc list k 0 l, contains_append (take k list) (get_or list k 0 ∷ []) x, h)
-      (unfold contains in rw (ne_eqb (get_or list k 0) x d))
+  none_before : (list : List Met) (k : ℕ) → ((j : ℕ) → j < k → here (get_or list j none_met) ≡ false) → contains (take k (tally list).cells) x ≡ false
+  unfolding contains
+  none_before list zero h = refl
+  none_before [] (suc k) h = refl
+  none_before (m ∷ ms) (suc k) h = let e : eqb m.cell x ≡ false = h 0 (omega arith) in rw e (none_before ms k (λ j l. h (suc j) (omega arith)))
 
-  module _ (n : ℕ) (m : n ≤ length list) where
-    pub placed : (k : ℕ) → k < n → contains (take k list) x ≡ false → get_or list k 0 ≡ x → Places list n x k
-    placed k l h e = record {
-      within = omega arith;
-      before = h;
-      there = λ _. e;
-      found = contains_at (take n list) k x (rw (length-take-le n list m) l) (get_or-take n list k 0 l ∙ e) ∙ sym (lt-ltb k n l);
-    }
-
-    pub unplaced : contains (take n list) x ≡ false → Places list n x n
-    unplaced h = record { within = omega arith; before = h; there = λ l. absurd (omega arith); found = h ∙ sym (le-ltb n n (omega arith)) }
+  pub placed : (list : List Met) (r : Option ℕ) → r ≡ position here list → Places (tally list).cells x r
+  placed list None e = record { within = tt; before = tt; there = tt; found = ⊎_elim (λ h. absurd (some h)) (λ h. h) (tested (contains (tally list).cells x)) }
+    where
+      some : contains (tally list).cells x ≡ true → ⊥
+      some h = let d : None ≡ Some (position_or_len here list) = rw (lt-ltb (position_or_len here list) (length list) (present list h)) at e in cc
+  placed list (Some k) e =
+      let p = position-Some here list k none_met (sym e) in
+      let there : get_or (tally list).cells k 0 ≡ x = get_or-map (λ (m : Met). m.cell) list k none_met ∙ eqb-true (get_or list k none_met).cell x p.1 in
+      let within : k < length (tally list).cells = rw length-map p.0 in
+      record { within = within; before = none_before list k p.2; there = there; found = contains_at (tally list).cells k x within there }

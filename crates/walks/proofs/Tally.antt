@@ -44,14 +44,16 @@ module _ (x : ℕ) where
   added_here ys i e = added_cases (λ (zs : List ℕ). contains zs i ≡ true) ys (λ m. rw e at m)
       (λ _. rw contains_append (or_right (contains ys i) (unfold contains in or_left false (eq-eqb x i e))))
 
-  -- what is so of the others and of the new one is so of all
-  pub added_all : (P : ℕ → Type 0) (ys : List ℕ) → ((i : ℕ) → contains ys i ≡ true → P i) → P x → (i : ℕ) → contains (added x ys) i ≡ true → P i
+  -- what is so of the others and of the last one is so of all
+  pub snoc_all : (P : ℕ → Type 0) (ys : List ℕ) → ((i : ℕ) → contains ys i ≡ true → P i) → P x → (i : ℕ) → contains (ys ++ (x ∷ [])) i ≡ true → P i
   unfolding contains
-  added_all P ys f p = added_cases (λ (zs : List ℕ). (i : ℕ) → contains zs i ≡ true → P i) ys (λ _. f)
-      (λ _ i h. ⊎_elim (f i) (last i) (or_true (contains ys i) (contains (x ∷ []) i) (rw contains_append at h)))
+  snoc_all P ys f p i h = ⊎_elim (f i) last (or_true (contains ys i) (contains (x ∷ []) i) (rw contains_append at h))
     where
-      last : (i : ℕ) → eqb x i || false ≡ true → P i
-      last i e = ⊎_elim (λ d. let same : x ≡ i = eqb-true x i d in rw same at p) (λ d. absurd (false≢true d)) (or_true (eqb x i) false e)
+      last : eqb x i || false ≡ true → P i
+      last e = ⊎_elim (λ d. let same : x ≡ i = eqb-true x i d in rw same at p) (λ d. absurd (false≢true d)) (or_true (eqb x i) false e)
+
+  pub added_all : (P : ℕ → Type 0) (ys : List ℕ) → ((i : ℕ) → contains ys i ≡ true → P i) → P x → (i : ℕ) → contains (added x ys) i ≡ true → P i
+  added_all P ys f p = added_cases (λ (zs : List ℕ). (i : ℕ) → contains zs i ≡ true → P i) ys (λ _. f) (λ _. snoc_all P ys f p)
 
   pub added_once : (ys : List ℕ) → ((i : ℕ) → occurrences i ys ≤ 1) → (i : ℕ) → occurrences i (added x ys) ≤ 1
   unfolding occurrences

@@ -27,7 +27,7 @@ use Rattle.walks.specs.Walk.{Walked}
 use Rattle.walks.specs.Tally.{Tally, added, raised, counted, is_entered, met, followed}
 use Rattle.walks.proofs.Places.{contains_at}
 use Rattle.walks.proofs.Tally.{added_front, added_keeps, added_here, added_all, added_once, counts_added}
-use Rattle.walks.proofs.Arrays.{met_cases, met_longer}
+use Rattle.walks.proofs.Counting.{met_cases, met_longer}
 use Rattle.walks.proofs.Pointers.{out_snoc, out_some, map_same}
 
 -- f says how often each word was met

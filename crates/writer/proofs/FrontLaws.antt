@@ -2,7 +2,8 @@
 use mathlib.Core.Path.{◌≡◌, refl, sym, ◌∙◌}
 use mathlib.Core.Bool.{Bool, true, false, ◌&&◌}
 use mathlib.Core.List.{List, [], ◌∷◌}
-use Prim.Native.Nat.{ℕ, pred, ◌+◌, ◌-◌, ◌≤◌}
+use Rattle.std.specs.Prelude.{Some}
+use Prim.Native.Nat.{ℕ, pred, ◌+◌, ◌≤◌}
 use native.Mathlib.Omega.{arith}
 use lib.Dec.{leb}
 use lib.ListN.{length}
@@ -16,16 +17,17 @@ use Rattle.machine.specs.Counts.{held_at_least}
 use Rattle.machine.specs.Questions.{first_no, in_range, words_legal, word_held}
 use Rattle.machine.proofs.Words.{cell_number_lem}
 use Rattle.machine.proofs.Questions.{first_no_all, shape_is}
+use Rattle.counts.specs.Cells.{IndexOf}
 use Rattle.writer.specs.Front.{front}
 
 module _ (t : List ℕ) (ps : List Packet) (w : ℕ) where
   -- a cell's held count by its sums
-  pub held_cell : (n r l r' l' : ℕ) {b : Bool} → is_cell (capacity t) w ≡ true → n ≡ word_at t (w - 1) root_count → r ≡ waiting_change root plus w ps
+  pub held_cell : (i n r l r' l' : ℕ) {b : Bool} → IndexOf t w (Some i) → n ≡ word_at t i root_count → r ≡ waiting_change root plus w ps
       → l ≡ waiting_change root minus w ps → r' ≡ n + r → l' ≡ l → b ≡ leb (l' + 1) r' → b ≡ word_held t ps w
   unfolding word_held held_at_least
-  held_cell n r l r' l' c e d h d' h' k =
-      let index : w - 1 ≡ pred w = omega arith in
-      k ∙ rw (c, h', h, d', e, d, index, sym (cell_number_lem (capacity t) w c))
+  held_cell i n r l r' l' c e d h d' h' k =
+      let index : i ≡ pred w = omega (arith, c.1) in
+      k ∙ rw (c.0, h', h, d', e, d, index, sym (cell_number_lem (capacity t) w c.0))
 
   pub held_other : is_cell (capacity t) w ≡ false → true ≡ word_held t ps w
   unfolding word_held

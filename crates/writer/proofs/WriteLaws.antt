@@ -1,4 +1,5 @@
 -- What the questions and the measure say of writing is what the machine replies.
+use Rattle.std.specs.Prelude.{Ok, Err, Result}
 use mathlib.Core.Path.{◌≡◌, refl, sym, ap, ◌∙◌}
 use mathlib.Core.Bool.{Bool, true, false, not}
 use mathlib.Core.List.{List, [], ◌∷◌, ◌++◌}
@@ -9,7 +10,7 @@ use lib.Seq.{take_at}
 use Rattle.notation.specs.Brackets.{Met, nothing, too_many, no_room, is_too_many, is_no_room, first_met}
 use Rattle.machine.specs.declared.Queue.{Queue}
 use Rattle.machine.specs.declared.Refusal.{Refusal}
-use Rattle.machine.specs.declared.LengthAnswer.{LengthAnswer}
+use Rattle.machine.specs.Answers.{LengthAnswer}
 use Rattle.machine.specs.Calls.{write, refused, text, store}
 use Rattle.machine.specs.Texts.{text_for}
 use Rattle.machine.specs.Step.{Outcome}
@@ -19,7 +20,7 @@ use Rattle.machine.specs.Machine.{accepted}
 use Rattle.machine.specs.Answers.{refusal_number}
 use Rattle.machine.proofs.Answers.{refusal_some}
 use Rattle.machine.proofs.Kept.{machine_refused, machine_accepted}
-use Rattle.printer.specs.declared.Measured.{Measured}
+use Rattle.printer.specs.declared.Unfit.{Unfit}
 use Rattle.printer.specs.Measures.{PutText}
 use Rattle.writer.specs.Front.{front}
 use Rattle.writer.specs.Writes.{answer_of, reply_to, Puts, Writes}
@@ -77,7 +78,7 @@ module _ (t : List ℕ) (q : Queue) (w room : ℕ) where
 
 -- refused by a front question, with the buffer as it was
 pub puts_refused : (t : List ℕ) (q : Queue) (w : ℕ) (old : List ℕ) (f : Refusal) → refusal_number f ≡ first_no (front t q w)
-    → Puts t q w old old (LengthAnswer.Refused f)
+    → Puts t q w old old (Err f)
 puts_refused t q w old f e =
     let some = refusal_some f in
     let n : refusal_number f ≡ suc (pred (refusal_number f)) = omega arith in
@@ -85,7 +86,7 @@ puts_refused t q w old f e =
     record { told = r; buffer = rw r }
 
 -- measured, and put where it fits
-pub puts_measured : (t : List ℕ) (q : Queue) (w : ℕ) (old new : List ℕ) (m : Measured) → 0 ≡ first_no (front t q w) → PutText t w old new m
+pub puts_measured : (t : List ℕ) (q : Queue) (w : ℕ) (old new : List ℕ) (m : Result ℕ Unfit) → 0 ≡ first_no (front t q w) → PutText t w old new m
     → Puts t q w old new (answer_of m)
 puts_measured t q w old new m z p = go (first_met room 0 bytes) refl
   where
@@ -97,12 +98,12 @@ puts_measured t q w old new m z p = go (first_met room 0 bytes) refl
 
     fits : first_met room 0 bytes ≡ nothing → Puts t q w old new (answer_of m)
     fits e =
-        let is : m ≡ Measured.Bytes (length bytes) = p.exact ∙ rw e in
+        let is : m ≡ Ok (length bytes) = p.exact ∙ rw e in
         let r = text_reply t q w room z e in
         let b : new ≡ bytes ++ drop (length bytes) old = rw is at p.put in
         rw is (record { told = (bytes, r, refl); buffer = rw r b })
 
-    refuses : (k : ℕ) (f : Refusal) → refusal_number f ≡ suc k → met_number (first_met room 0 bytes) ≡ suc k → answer_of m ≡ LengthAnswer.Refused f → new ≡ old
+    refuses : (k : ℕ) (f : Refusal) → refusal_number f ≡ suc k → met_number (first_met room 0 bytes) ≡ suc k → answer_of m ≡ Err f → new ≡ old
         → Puts t q w old new (answer_of m)
     refuses k f n e a b =
         let r = met_refused t q w room k z e in
@@ -111,27 +112,27 @@ puts_measured t q w old new m z p = go (first_met room 0 bytes) refl
     go : (found : Met) → first_met room 0 bytes ≡ found → Puts t q w old new (answer_of m)
     go nothing e = fits e
     go too_many e =
-        let is : m ≡ Measured.TooDeep = p.exact ∙ rw e in
+        let is : m ≡ Err Unfit.TooDeep = p.exact ∙ rw e in
         let b : new ≡ old = rw is at p.put in
         refuses 11 Refusal.TooDeep refl (ap met_number e) (ap answer_of is) b
     go no_room e =
-        let is : m ≡ Measured.NoRoom = p.exact ∙ rw e in
+        let is : m ≡ Err Unfit.NoRoom = p.exact ∙ rw e in
         let b : new ≡ old = rw is at p.put in
         refuses 12 Refusal.BufferTooShort refl (ap met_number e) (ap answer_of is) b
 
 -- the part of the buffer that holds the text
 module _ (t : List ℕ) (q : Queue) (w : ℕ) (old new : List ℕ) where
-  pub part_within : (n : ℕ) → Puts t q w old new (LengthAnswer.Length n) → n ≤ length new
+  pub part_within : (n : ℕ) → Puts t q w old new (Ok n) → n ≤ length new
   part_within n p =
       let b = p.told.0 in
       let e : new ≡ b ++ drop (length b) old = rw p.told.1 at p.buffer in
       omega (arith, ap length e, length-append b (drop (length b) old), p.told.2)
 
-  pub part_text : (n : ℕ) (begin : ℕ × ℕ) → Puts t q w old new (LengthAnswer.Length n) → Writes t q w (length old) begin begin (take n new)
+  pub part_text : (n : ℕ) (begin : ℕ × ℕ) → Puts t q w old new (Ok n) → Writes t q w (length old) begin begin (take n new)
   part_text n begin p =
       let b = p.told.0 in
       let e : new ≡ b ++ drop (length b) old = rw p.told.1 at p.buffer in
       record { filled = rw (p.told.1, e) (take_at b (drop (length b) old) n (sym p.told.2)); front = refl }
 
-  pub part_none : (f : Refusal) (begin : ℕ × ℕ) → Puts t q w old new (LengthAnswer.Refused f) → Writes t q w (length old) begin begin []
+  pub part_none : (f : Refusal) (begin : ℕ × ℕ) → Puts t q w old new (Err f) → Writes t q w (length old) begin begin []
   part_none f begin p = record { filled = rw p.told; front = refl }

@@ -10,47 +10,51 @@ ghost use Rattle.writer.specs.Front.{front};
 ghost use Rattle.writer.specs.Writes.{answer_of, Puts, Writes};
 
 use machine::{Asked, LengthAnswer, Queue, Refusal};
-use printer::Measured;
+use printer::Unfit;
 
 // Question 6: a cell is held; of any other word no hold is asked.
-fn word_held(table: &[u16], queue: Queue, word: u16) -> bool
-    requires { Shape table.now queue }
-    ensures { result ≡ word_held table.now (waiting queue) word }
+fn word_held(table: &[u16], queue: &Queue, word: u16) -> bool
+    requires { Shape table.now queue.now }
+    ensures { result ≡ word_held table.now (waiting queue.now) word }
 {
-    if questions::is_cell(cells::capacity_of(table), word) {
-        let index = (word as usize) - 1;
-        let place = queue.place;
-        let count = queue.count;
-        let s = queue::waiting_changes(&queue.kinds, &queue.a, &queue.b, place, count, word);
-        return s.held.with(cells::root_count(table, index)).at_least(1);
-    }
-    true
+    let Some(index) = counts::cell_index(table, word) else {
+        return true;
+    };
+    let s = queue::waiting_changes(
+        &queue.kinds,
+        &queue.a,
+        &queue.b,
+        queue.place,
+        queue.count,
+        word,
+    );
+    s.held.with(cells::count(table, index)).at_least(1)
 }
 
 // Questions 1, 4 and 6, which have an exact answer on every store.
-fn asked(table: &[u16], queue: Queue, word: u16) -> Asked
-    ensures { asked_number result ≡ first_no (front table.now queue word) }
+fn asked(table: &[u16], queue: &Queue, word: u16) -> Asked
+    ensures { asked_number result ≡ first_no (front table.now queue.now word) }
 {
-    if !questions::in_range(table, queue.place, queue.count) {
-        return Asked::No(Refusal::StoreOutOfRange);
+    if !questions::in_range(table, queue) {
+        return Err(Refusal::StoreOutOfRange);
     }
     if !questions::is_legal(cells::capacity_of(table), word) {
-        return Asked::No(Refusal::IllegalWord);
+        return Err(Refusal::IllegalWord);
     }
     if !word_held(table, queue, word) {
-        return Asked::No(Refusal::NotHeld);
+        return Err(Refusal::NotHeld);
     }
-    Asked::Yes
+    Ok(())
 }
 
 // What was measured, as an answer.
-fn answer_of(measured: Measured) -> LengthAnswer
+fn answer_of(measured: Result<usize, Unfit>) -> LengthAnswer
     ensures { result ≡ answer_of measured }
 {
     match measured {
-        Measured::Bytes(n) => LengthAnswer::Length(n),
-        Measured::TooDeep => LengthAnswer::Refused(Refusal::TooDeep),
-        Measured::NoRoom => LengthAnswer::Refused(Refusal::BufferTooShort),
+        Ok(n) => Ok(n),
+        Err(Unfit::TooDeep) => Err(Refusal::TooDeep),
+        Err(Unfit::NoRoom) => Err(Refusal::BufferTooShort),
     }
 }
 
@@ -58,11 +62,8 @@ fn answer_of(measured: Measured) -> LengthAnswer
 pub fn put_text(table: &[u16], queue: Queue, word: u16, buffer: &mut [u8]) -> LengthAnswer
     ensures { Puts table.now queue word buffer.old buffer.new result }
 {
-    let front = asked(table, queue, word);
-    match front {
-        Asked::No(refusal) => LengthAnswer::Refused(refusal),
-        Asked::Yes => answer_of(printer::put_text(table, word, buffer)),
-    }
+    asked(table, &queue, word)?;
+    answer_of(printer::put_text(table, word, buffer))
 }
 
 // The same, and the part of the buffer that holds the text is handed back; where it is refused, an empty one.
@@ -71,7 +72,7 @@ pub fn write_text<'b>(table: &[u16], queue: Queue, word: u16, buffer: &'b mut [u
 {
     let answer = put_text(table, queue, word, buffer);
     match answer {
-        LengthAnswer::Length(n) => &mut buffer[..n],
-        LengthAnswer::Refused(_) => &mut buffer[..0],
+        Ok(n) => &mut buffer[..n],
+        Err(_) => &mut buffer[..0],
     }
 }

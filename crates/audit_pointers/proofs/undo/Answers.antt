@@ -12,7 +12,7 @@ unfolding kind_of
 undo_cons-requires c =
     let i = c.args in
     let p = packet_of c.packet_on-p.result in
-    let used = makes_used i.table.now i.queue i.j i.scratch.now c.requires p c.packet_on-p.ensures
+    let used = makes_used i.table.now i.queue.now i.j i.scratch.now c.requires p c.packet_on-p.ensures
     (ap kind_of c.in-2.is) in
     (c.requires, used)
 
@@ -21,7 +21,7 @@ unfolding kind_of
 undo_replace-requires c =
     let i = c.args in
     let p = packet_of c.packet_on-p.result in
-    let used = replaces_used i.table.now i.queue i.j i.scratch.now c.requires p c.packet_on-p.ensures left
+    let used = replaces_used i.table.now i.queue.now i.j i.scratch.now c.requires p c.packet_on-p.ensures left
     (ap kind_of c.in-3.is) in
     (c.requires, used, omega arith)
 
@@ -30,7 +30,7 @@ unfolding kind_of
 undo_replace-requires-in-6 c =
     let i = c.args in
     let p = packet_of c.packet_on-p.result in
-    let used = replaces_used i.table.now i.queue i.j i.scratch.now c.requires p c.packet_on-p.ensures right
+    let used = replaces_used i.table.now i.queue.now i.j i.scratch.now c.requires p c.packet_on-p.ensures right
     (ap kind_of c.in-6.is) in
     (c.requires, used, omega arith)
 
@@ -39,7 +39,7 @@ unfolding kind_of
 returns-in-2 c =
     let i = c.args in
     let p = packet_of c.packet_on-p.result in
-    undo_kind i.table.now i.queue i.j i.scratch.now c.requires p c.packet_on-p.ensures makes _ _
+    undo_kind i.table.now i.queue.now i.j i.scratch.now c.requires p c.packet_on-p.ensures makes _ _
     (ap kind_of c.in-2.is) c.undo_cons.ensures
 
 pub returns-in-3 : goal.returns-in-3
@@ -47,7 +47,7 @@ unfolding kind_of
 returns-in-3 c =
     let i = c.args in
     let p = packet_of c.packet_on-p.result in
-    undo_kind i.table.now i.queue i.j i.scratch.now c.requires p c.packet_on-p.ensures (replaces left) _ _
+    undo_kind i.table.now i.queue.now i.j i.scratch.now c.requires p c.packet_on-p.ensures (replaces left) _ _
     (ap kind_of c.in-3.is) c.undo_replace.ensures
 
 pub returns-in-6 : goal.returns-in-6
@@ -55,12 +55,12 @@ unfolding kind_of
 returns-in-6 c =
     let i = c.args in
     let p = packet_of c.packet_on-p.result in
-    undo_kind i.table.now i.queue i.j i.scratch.now c.requires p c.packet_on-p.ensures (replaces right) _ _
+    undo_kind i.table.now i.queue.now i.j i.scratch.now c.requires p c.packet_on-p.ensures (replaces right) _ _
     (ap kind_of c.in-6.is) c.undo_replace-in-6.ensures
 
 pub returns-in_default : goal.returns-in_default
 returns-in_default c =
     let i = c.args in
     let p = c.packet_on-p.result in
-    undo_kept i.table.now i.queue i.j i.scratch.now c.requires (packet_of p) c.packet_on-p.ensures
+    undo_kept i.table.now i.queue.now i.j i.scratch.now c.requires (packet_of p) c.packet_on-p.ensures
     (keeps p.kind (λ e. omega arith) (λ e. omega arith) (λ e. omega arith))

@@ -1,8 +1,5 @@
-use mathlib.Core.Bool.{not}
-use mathlib.Core.Path.{ap}
 use mathlib.Core.Path.{sym, ◌∙◌}
 use native.Mathlib.Omega.{arith}
-use borrow.Author.Tests.{not-true, not-false}
 use Rattle.audit_pointers.proofs.QueueUndo.{undo_next, undo_more, undo_broken, undo_done}
 use Rattle.audit_pointers.proofs.undo_all.Goals as goal
 
@@ -21,7 +18,7 @@ returns-then-not-undo c =
     let l = c.loop-j in
     let u = c.undo.ensures in
     record {
-      answer = sym (undo_broken i.table.now i.queue l.j l.scratch _ _ l.invariant.some (omega arith) u (not-true _ (ap not c.if-not-undo.true)));
+      answer = sym (undo_broken i.table.now i.queue.now l.j l.scratch _ _ l.invariant.some (omega arith) u c.if-not-undo.true);
       past = u.past ∙ l.invariant.past;
     }
 
@@ -30,7 +27,7 @@ loop-j-preserved c =
     let i = c.args in
     let l = c.loop-j in
     let u = c.undo in
-    undo_more i.table.now i.queue l.j i.scratch.now l.scratch _ _ l.invariant (omega arith) u.ensures (not-false _ (ap not c.if-not-undo.false))
+    undo_more i.table.now i.queue.now l.j i.scratch.now l.scratch _ _ l.invariant (omega arith) u.ensures c.if-not-undo.false
     u.auto.scratch
 
 pub counts_match-requires : goal.counts_match-requires
@@ -46,6 +43,6 @@ returns c =
     let i = c.args in
     let l = c.loop-j in
     record {
-      answer = c.counts_match.ensures ∙ undo_done i.table.now i.queue l.j i.scratch.now l.scratch l.invariant (omega arith);
+      answer = c.counts_match.ensures ∙ undo_done i.table.now i.queue.now l.j i.scratch.now l.scratch l.invariant (omega arith);
       past = l.invariant.past;
     }

@@ -3,6 +3,3 @@ use Rattle.audit_pointers.proofs.undo_all.Given as goal
 
 abbrev pub invariant-loop-j : goal.invariant-loop-j
 invariant-loop-j l = Undoing l.table l.queue l.j l.initial.scratch l.scratch
-
-abbrev pub decreases-loop-j : goal.decreases-loop-j
-decreases-loop-j l = l.j

@@ -18,19 +18,19 @@ write-requires c =
     let r = call_of i.call in
     let reply = c.queued-reply.result in
     writable i.table.now i.queue r
-    (done_yes i.table.now i.queue r reply.answer reply.queue (c.queued-reply.ensures (call_of i.call) c.requires) _ c.in-Done.is)
+    (done_yes i.table.now i.queue r reply.answer reply.queue (c.queued-reply.ensures (call_of i.call) c.requires) _ c.in-Ok.is)
 
 pub name_packet-requires : goal.name_packet-requires
 name_packet-requires c =
     let i = c.args in
     rw c.write.ensures (passed_room i.table.now i.queue (call_of i.call) (packet_of i.packet) c.requires)
 
-pub returns-in-Done : goal.returns-in-Done
-returns-in-Done c =
+pub returns-in-Ok : goal.returns-in-Ok
+returns-in-Ok c =
     let i = c.args in
     let r = call_of i.call in
     let reply = c.queued-reply.result in
-    done_called i.table.now i.queue r reply.answer reply.queue (c.queued-reply.ensures (call_of i.call) c.requires) _ _ c.requires.queues c.in-Done.is
+    done_called i.table.now i.queue r reply.answer reply.queue (c.queued-reply.ensures (call_of i.call) c.requires) _ _ c.requires.queues c.in-Ok.is
     (c.name_packet.ensures ∙ ap₂ named_fitting c.write.ensures c.requires.packet)
 
 pub returns-in_default : goal.returns-in_default

@@ -1,20 +1,18 @@
-use mathlib.Core.Path.{◌≡◌, refl}
+use mathlib.Core.Path.{◌≡◌, ap, ◌∙◌}
+use mathlib.Core.List.{List, ◌++◌}
+use Prim.Native.Nat.{ℕ}
 use native.Mathlib.Omega.{arith}
-use lib.ListN.{length-set}
-use Rattle.machine.specs.Table.{scratch_words}
-use Rattle.machine.proofs.Scratch.{cleared_none, cleared_more}
+use borrow.Author.Rules.{rules}
+use lib.ListN.{drop, replicate}
+use lib.Seq.{length-take-le}
+use Rattle.machine.specs.Step.{cleared}
 use Rattle.marks.proofs.clear.Goals as goal
 
-pub loop-i-init : goal.loop-i-init
-loop-i-init c = (omega arith, refl, cleared_none c.args.scratch.now)
-
-pub loop-i-preserved : goal.loop-i-preserved
-loop-i-preserved c =
-    let l = c.loop-i in
-    (omega arith, simp length-set (omega arith), cleared_more l.i c.args.scratch.now l.scratch (omega arith) l.invariant.2)
-
 pub returns : goal.returns
+unfolding cleared
 returns c =
-    let l = c.loop-i in
-    let e : l.i ≡ scratch_words c.args.c = omega arith in
-    rw e at l.invariant.2
+    let s = c.args.scratch.now in
+    let e = c.scratch_for.ensures in
+    let filled : c.fill.new.self ≡ replicate c.scratch_for.result 0 =
+    c.fill.ensures.after (λ y h. search rules) ∙ ap (λ (n : ℕ). replicate n 0) (length-take-le c.scratch_for.result s (omega arith)) in
+    ap (λ (front : List ℕ). front ++ drop c.scratch_for.result s) filled ∙ ap (λ (n : ℕ). replicate n 0 ++ drop n s) e

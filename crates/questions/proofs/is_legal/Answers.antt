@@ -1,16 +1,11 @@
 use borrow.Author.Rules.{rules}
-use mathlib.Core.Path.{sym}
-use Rattle.questions.proofs.Rules.{chain}
-use Rattle.machine.specs.Words.{is_nil, is_legal}
-use Rattle.questions.proofs.Words.{legal_cell, legal_atom}
+use mathlib.Core.Path.{sym, ◌∙◌}
+use borrow.Author.Tests.{le-leb}
+use Rattle.questions.proofs.Words.{legal_low, legal_atom}
 use Rattle.questions.proofs.is_legal.Goals as goal
 
-pub returns-then-w-eq0 : goal.returns-then-w-eq0
-unfolding is_nil is_legal
-returns-then-w-eq0 c = search chain
-
 pub returns-then-w-c : goal.returns-then-w-c
-returns-then-w-c c = sym (legal_cell _ _ c.if-w-eq0.false c.if-w-c.true)
+returns-then-w-c c = le-leb _ _ c.if-w-c.true ∙ sym (legal_low _ _ c.if-w-c.true)
 
-pub returns : goal.returns
-returns c = sym (legal_atom _ _ c.if-w-eq0.false c.if-w-c.false (search rules))
+pub returns-else-w-c : goal.returns-else-w-c
+returns-else-w-c c = sym (legal_atom _ _ c.if-w-c.false (search rules))

@@ -4,4 +4,4 @@ use Rattle.questions.proofs.slot_empty.Goals as goal
 
 pub returns : goal.returns
 unfolding slot_empty
-returns c q = search rules
+returns c = search rules

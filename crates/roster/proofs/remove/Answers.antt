@@ -1,8 +1,8 @@
 use Rattle.roster.proofs.PromiseLaws.{remove_asks, refused_then, past_then}
 use Rattle.roster.proofs.remove.Goals as goal
 
-pub returns-in-No : goal.returns-in-No
-returns-in-No c = refused_then (remove_asks _ _) _ (rw c.in-No.is at c.seat_asked-asked.ensures)
+pub returns-in-Err : goal.returns-in-Err
+returns-in-Err c = refused_then (remove_asks _ _) _ (rw c.in-Err.is at c.seat_asked.ensures)
 
-pub returns-in-Yes : goal.returns-in-Yes
-returns-in-Yes c = past_then (remove_asks _ _) (rw c.in-Yes.is at c.seat_asked-asked.ensures) c.seat_removed.ensures
+pub returns-in-Ok : goal.returns-in-Ok
+returns-in-Ok c = past_then (remove_asks _ _) (rw c.in-Ok.is at c.seat_asked.ensures) c.seat_removed.ensures

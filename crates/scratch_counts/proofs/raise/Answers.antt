@@ -1,42 +1,27 @@
 use mathlib.Core.Path.{refl, sym, ◌∙◌}
-use Prim.Native.Nat.{◌-◌, ◌<◌}
+use Prim.Native.Nat.{◌-◌}
 use native.Mathlib.Omega.{arith}
-use lib.ListN.{length}
-use Rattle.marks.proofs.Scratch.{word_within_lem}
-use Rattle.scratch_counts.proofs.Counts.{cell_bounds, up_none, up_here}
+use Rattle.scratch_counts.proofs.Counts.{cell_bounds, cell_place, up_none, up_here}
 use Rattle.scratch_counts.proofs.raise.Goals as goal
 
 pub overflow_sub-index : goal.overflow_sub-index
-overflow_sub-index c =
-    let i = c.args in
-    let b = cell_bounds i.c i.w c.is_cell.ensures c.if-is_cell.true in
-    omega arith
+overflow_sub-index c = let b = cell_bounds c.args.c c.args.w c.is_cell.ensures c.if-is_cell.true in omega arith
 
 pub bounds-scratch-index : goal.bounds-scratch-index
-bounds-scratch-index c =
-    let i = c.args in
-    let b = cell_bounds i.c i.w c.is_cell.ensures c.if-is_cell.true in
-    let l : i.w - 1 < i.c = omega arith in
-    omega (arith, word_within_lem i.c (i.w - 1) (length i.scratch.now) l c.requires.0)
+bounds-scratch-index c = cell_place c.args.c c.args.w _ c.is_cell.ensures c.if-is_cell.true c.requires.0
 
 pub overflow_add-scratch : goal.overflow_add-scratch
 overflow_add-scratch c =
-    let i = c.args in
-    let b = cell_bounds i.c i.w c.is_cell.ensures c.if-is_cell.true in
-    let h = c.requires.1 (i.w - 1) (omega arith) in omega arith
+    let b = cell_bounds c.args.c c.args.w c.is_cell.ensures c.if-is_cell.true in
+    let h = c.requires.1 (c.args.w - 1) (omega arith) in omega arith
 
 pub bounds-scratch-index-then-is_cell : goal.bounds-scratch-index-then-is_cell
-bounds-scratch-index-then-is_cell c =
-    let i = c.args in
-    let b = cell_bounds i.c i.w c.is_cell.ensures c.if-is_cell.true in
-    let l : i.w - 1 < i.c = omega arith in
-    omega (arith, word_within_lem i.c (i.w - 1) (length i.scratch.now) l c.requires.0)
+bounds-scratch-index-then-is_cell c = cell_place c.args.c c.args.w _ c.is_cell.ensures c.if-is_cell.true c.requires.0
 
 pub returns-then-is_cell : goal.returns-then-is_cell
 returns-then-is_cell c =
-    let i = c.args in
-    let b = cell_bounds i.c i.w c.is_cell.ensures c.if-is_cell.true in
-    up_here i.c i.w _ i.scratch.now b.0 b.1 c.requires.0 refl
+    let b = cell_bounds c.args.c c.args.w c.is_cell.ensures c.if-is_cell.true in
+    up_here c.args.c c.args.w _ c.args.scratch.now b.0 b.1 c.requires.0 refl
 
 pub returns-else-is_cell : goal.returns-else-is_cell
 returns-else-is_cell c = up_none _ _ _ (sym c.is_cell.ensures ∙ c.if-is_cell.false)

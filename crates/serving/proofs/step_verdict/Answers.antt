@@ -3,5 +3,5 @@ use Rattle.serving.proofs.step_verdict.Goals as goal
 pub returns-in-Applied : goal.returns-in-Applied
 returns-in-Applied c = rw c.in-Applied.is
 
-pub returns-in-Refused : goal.returns-in-Refused
-returns-in-Refused c = rw (c.in-Refused.is, c.number.ensures)
+pub returns-in-Err : goal.returns-in-Err
+returns-in-Err c = rw (c.in-Err.is, c.refused.ensures)

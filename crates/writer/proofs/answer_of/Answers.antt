@@ -1,7 +1,7 @@
 use Rattle.writer.proofs.answer_of.Goals as goal
 
-pub returns-in-Bytes : goal.returns-in-Bytes
-returns-in-Bytes c = rw c.in-Bytes.is
+pub returns-in-Ok : goal.returns-in-Ok
+returns-in-Ok c = rw c.in-Ok.is
 
 pub returns-in-TooDeep : goal.returns-in-TooDeep
 returns-in-TooDeep c = rw c.in-TooDeep.is

@@ -1,26 +1,19 @@
-use mathlib.Core.Path.{◌≡◌}
-use native.Mathlib.Omega.{arith}
-use Rattle.machine.specs.Table.{capacity}
+use Rattle.std.proofs.Common.{◌∙◌, ap, cond, rules, tests, arith}
+use Rattle.std.specs.List.{range_with_len}
+use Rattle.std.proofs.lemmas.Iterator.{YieldsList-from_range}
+use Rattle.std.proofs.lemmas.Iterator.Consumers.{YieldsList-from_filter, count_from_yields_List}
+use Rattle.std.proofs.lemmas.List.Sums.{length-filter}
+use Rattle.machine.specs.Range.{total}
+use Rattle.machine.specs.Table.{is_free}
+use Rattle.machine.proofs.Below.{count_below}
 use Rattle.audit_cells.specs.FreeChain.{free_bit, free_cells}
-use Rattle.audit_cells.proofs.Tests.{total_none, total_more}
-use Rattle.audit_cells.proofs.FreeChain.{bit_most}
 use Rattle.audit_cells.proofs.chain.free_cells.Goals as goal
 
-pub loop-index-init : goal.loop-index-init
-loop-index-init c = (omega arith, omega arith, total_none _)
-
-pub overflow_add-free : goal.overflow_add-free
-overflow_add-free c = omega (arith, bit_most c.args.table.now c.loop-index.index)
-
-pub loop-index-preserved : goal.loop-index-preserved
-loop-index-preserved c =
-    let t = c.args.table.now in
-    let i = c.loop-index.index in
-    let b = bit_most t i in
-    (omega arith, omega arith, omega (arith, total_more i (free_bit t)))
-
 pub returns : goal.returns
-unfolding free_cells
+unfolding free_cells free_bit is_free
 returns c =
-    let e : c.loop-index.index ≡ capacity c.args.table.now = omega arith in
-    rw e at c.loop-index.invariant.2
+    let p = is_free c.args.table.now in
+    let n = c.capacity_of.result in
+    count_from_yields_List c.filter.result _ c.count.ensures.ran
+    (YieldsList-from_filter _ p (YieldsList-from_range 0 n n c.filter.ensures.source (omega arith)) c.filter.ensures.closure (λ x b q k. search (rules, tests)))
+    ∙ length-filter p (range_with_len 0 n) ∙ count_below n p ∙ ap (λ m. total m (λ i. cond (p i) 1 0)) c.capacity_of.ensures

@@ -3,5 +3,5 @@ use Rattle.audit_packets.proofs.replay.held_after.Goals as goal
 
 pub returns : goal.returns
 returns c =
-    let i = c.args in
-    held_cut i.queue i.j i.x i.root.0 _ _ (c.waiting_changes-sums.ensures.by_index i.queue.c).held c.with.ensures
+    let q = c.args.queue.now in
+    held_cut q c.args.j c.args.x c.args.root.0 _ _ (c.waiting_changes-sums.ensures.by_index q.c).held c.with.ensures

@@ -5,4 +5,4 @@ use Rattle.audit_packets.proofs.slots.packet_on.Goals as goal
 
 pub returns : goal.returns
 unfolding packet_on
-returns c = c.packet_at.ensures ∙ ap (slot c.args.queue) c.slot_after.ensures.0
+returns c = c.packet_at.ensures ∙ ap (slot c.args.queue.now) c.slot_after.ensures.0

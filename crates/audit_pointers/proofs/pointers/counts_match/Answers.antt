@@ -1,32 +1,11 @@
-use mathlib.Core.Path.{◌≡◌, sym, ◌∙◌}
-use Prim.Native.Nat.{◌<◌}
-use native.Mathlib.Omega.{arith}
-use lib.ListN.{length}
-use borrow.Author.Tests.{eq-eqb, ne_eqb}
-use Rattle.machine.specs.Table.{capacity}
-use Rattle.marks.proofs.Scratch.{word_within_lem}
+use Rattle.std.proofs.Common.{◌∙◌, ap, refl, rules, tests}
+use Rattle.machine.specs.Range.{every}
+use Rattle.machine.proofs.Below.{all_numbers}
 use Rattle.audit_pointers.specs.PointerCounts.{count_matches}
-use Rattle.audit_cells.proofs.Tests.{every_none, every_more, every_fails}
 use Rattle.audit_pointers.proofs.pointers.counts_match.Goals as goal
 
-pub loop-i-init : goal.loop-i-init
-loop-i-init c = (omega arith, every_none _)
-
-pub bounds-scratch-i : goal.bounds-scratch-i
-bounds-scratch-i c =
-    let l : c.loop-i.i < capacity c.args.table.now = omega arith in
-    omega (arith, word_within_lem (capacity c.args.table.now) c.loop-i.i (length c.args.scratch.now) l c.requires.1)
-
-pub returns-then-cell_count-scratch : goal.returns-then-cell_count-scratch
-unfolding count_matches
-returns-then-cell_count-scratch c = sym (every_fails _ _ _ (omega arith) (ne_eqb _ _ (λ e. c.if-cell_count-scratch.true (c.cell_count.ensures ∙ e))))
-
-pub loop-i-preserved : goal.loop-i-preserved
-unfolding count_matches
-loop-i-preserved c =
-    (omega arith, every_more _ _ c.loop-i.invariant.1 (eq-eqb _ _ (sym c.cell_count.ensures ∙ c.if-cell_count-scratch.false)))
-
 pub returns : goal.returns
+unfolding count_matches
 returns c =
-    let e : c.loop-i.i ≡ capacity c.args.table.now = omega arith in
-    sym (rw e at c.loop-i.invariant.1)
+    let p = count_matches c.args.table.now c.args.scratch.now in
+    all_numbers p c.capacity_of.result _ _ _ c.all.ensures.ran refl (λ x b q k. search (rules, tests)) ∙ ap (λ n. every n p) c.capacity_of.ensures

@@ -4,31 +4,31 @@ use Rattle.calls.proofs.EarlyLaws.{yes, no}
 use Rattle.calls.proofs.tests.replace_tests.Goals as goal
 
 pub returns-then-not-at_least : goal.returns-then-not-at_least
-returns-then-not-at_least c q =
+returns-then-not-at_least c =
     rw (no c.at_least.ensures (ap not c.if-not-at_least.true))
 
 pub returns-then-not-at_least-2 : goal.returns-then-not-at_least-2
-returns-then-not-at_least-2 c q =
+returns-then-not-at_least-2 c =
     let held-y = yes c.at_least.ensures (ap not c.if-not-at_least.false) in
     rw (held-y, no c.at_least-2.ensures (ap not c.if-not-at_least-2.true))
 
 pub returns-then-not-slot_empty : goal.returns-then-not-slot_empty
-returns-then-not-slot_empty c q =
+returns-then-not-slot_empty c =
     let held-y = yes c.at_least.ensures (ap not c.if-not-at_least.false) in
     let held_x = yes c.at_least-2.ensures (ap not c.if-not-at_least-2.false) in
-    rw (held-y, held_x, no (c.slot_empty.ensures q) (ap not c.if-not-slot_empty.true))
+    rw (held-y, held_x, no c.slot_empty.ensures (ap not c.if-not-slot_empty.true))
 
 pub returns-then-not-within : goal.returns-then-not-within
-returns-then-not-within c q =
+returns-then-not-within c =
     let held-y = yes c.at_least.ensures (ap not c.if-not-at_least.false) in
     let held_x = yes c.at_least-2.ensures (ap not c.if-not-at_least-2.false) in
-    let slot = yes (c.slot_empty.ensures q) (ap not c.if-not-slot_empty.false) in
+    let slot = yes c.slot_empty.ensures (ap not c.if-not-slot_empty.false) in
     rw (held-y, held_x, slot, no c.within.ensures (ap not c.if-not-within.true))
 
 pub returns : goal.returns
-returns c q =
+returns c =
     let held-y = yes c.at_least.ensures (ap not c.if-not-at_least.false) in
     let held_x = yes c.at_least-2.ensures (ap not c.if-not-at_least-2.false) in
-    let slot = yes (c.slot_empty.ensures q) (ap not c.if-not-slot_empty.false) in
+    let slot = yes c.slot_empty.ensures (ap not c.if-not-slot_empty.false) in
     let after = yes c.within.ensures (ap not c.if-not-within.false) in
     rw (held-y, held_x, slot, after)

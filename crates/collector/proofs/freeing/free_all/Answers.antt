@@ -4,25 +4,20 @@ use Rattle.collector.proofs.FreedCells.{all_remain, at_cell, one_less, none_rema
 use Rattle.collector.proofs.freeing.free_all.Goals as goal
 
 pub loop-i-init : goal.loop-i-init
-loop-i-init c =
-    (omega arith, refl, all_remain c.args.table.now c.args.dead.now c.args.n c.requires.0)
+loop-i-init c = all_remain c.args.table.now c.args.dead.now _ refl c.requires.0
 
 pub free-requires : goal.free-requires
 free-requires c =
     let l = c.loop-i in
-    at_cell _ c.args.table.now c.args.dead.now c.args.n c.requires.1 l.table l.i _ (omega arith) (omega arith) l.invariant.2
+    at_cell _ c.args.table.now c.args.dead.now c.requires.1 l.table l.i _ (omega arith) (omega arith) l.invariant
 
 pub loop-i-preserved : goal.loop-i-preserved
 loop-i-preserved c =
-    let l = c.loop-i in (
-      omega arith,
-      omega arith,
-      one_less _ c.args.table.now c.args.dead.now c.args.n c.requires.1 l.table l.i _ (omega arith) (omega arith) l.invariant.2 _
-          c.free.ensures,
-    )
+    let l = c.loop-i in
+    one_less _ c.args.table.now c.args.dead.now c.requires.1 l.table l.i _ (omega arith) (omega arith) l.invariant _ c.free.ensures
 
 pub returns : goal.returns
 returns c =
     let l = c.loop-i in
     let i = c.args in
-    none_remain _ i.table.now i.dead.now i.n l.i l.table l.invariant.2 (omega arith)
+    none_remain _ i.table.now i.dead.now l.i l.table l.invariant (omega arith)

@@ -7,4 +7,4 @@ returns c =
     let i = c.args in
     packet_named i.table.now _ i.kind i.a i.b i.c
     (named_three plus i.table.now _ _ _ (kind_of i.kind) i.a i.b i.c _ _ _ c.names_of-names.ensures
-    c.name_up.ensures c.name_up-2.ensures c.name_up-3.ensures)
+    c.up.ensures c.up-2.ensures c.up-3.ensures)

@@ -7,4 +7,4 @@ returns c =
     let i = c.args in
     packet_unnamed i.table.now _ i.kind i.a i.b i.c
     (named_three minus i.table.now _ _ _ (kind_of i.kind) i.a i.b i.c _ _ _ c.names_of-names.ensures
-    c.name_down.ensures c.name_down-2.ensures c.name_down-3.ensures)
+    c.down.ensures c.down-2.ensures c.down-3.ensures)

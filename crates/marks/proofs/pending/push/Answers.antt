@@ -5,8 +5,8 @@ use Rattle.counts.proofs.Cells.{bounds}
 use Rattle.marks.proofs.Scratch.{word_within_lem}
 use Rattle.marks.proofs.pending.push.Goals as goal
 
-pub overflow_sub-index : goal.overflow_sub-index
-overflow_sub-index c = let b = bounds _ _ (sym c.is_cell.ensures ∙ c.if-is_cell.true) in omega arith
+pub overflow_sub-w : goal.overflow_sub-w
+overflow_sub-w c = let b = bounds _ _ (sym c.is_cell.ensures ∙ c.if-is_cell.true) in omega arith
 
 pub bounds-scratch-index : goal.bounds-scratch-index
 bounds-scratch-index c =
@@ -20,12 +20,14 @@ bounds-scratch-index-then-scratch-index-eq0 c =
 
 pub returns-then-scratch-index-eq0 : goal.returns-then-scratch-index-eq0
 returns-then-scratch-index-eq0 c =
-    push_new _ _ c.args.scratch.now _ (sym c.is_cell.ensures ∙ c.if-is_cell.true) c.if-scratch-index-eq0.true
+    let free = rw c.from-index.ensures at c.if-scratch-index-eq0.true in
+    rw c.from-index.ensures (push_new _ _ c.args.scratch.now _ (sym c.is_cell.ensures ∙ c.if-is_cell.true) free)
 
-pub returns-then-is_cell : goal.returns-then-is_cell
-returns-then-is_cell c =
-    push_met _ _ c.args.scratch.now _ c.requires.2 (sym c.is_cell.ensures ∙ c.if-is_cell.true) c.if-scratch-index-eq0.false
+pub returns-else-scratch-index-eq0 : goal.returns-else-scratch-index-eq0
+returns-else-scratch-index-eq0 c =
+    let taken = rw c.from-index.ensures at c.if-scratch-index-eq0.false in
+    push_met _ _ c.args.scratch.now _ c.requires.2 (sym c.is_cell.ensures ∙ c.if-is_cell.true) taken
 
-pub returns : goal.returns
-returns c =
+pub returns-else-is_cell : goal.returns-else-is_cell
+returns-else-is_cell c =
     push_none _ _ c.args.scratch.now _ c.requires.2 (sym c.is_cell.ensures ∙ c.if-is_cell.false)

@@ -1,7 +1,6 @@
 use mathlib.Core.Bool.{not}
 use mathlib.Core.Path.{ap}
 use mathlib.Core.Path.{sym, ◌∙◌}
-use Rattle.machine.specs.Queue.{placed, empty_queue}
 use Rattle.machine.proofs.Questions.{shape_is}
 use Rattle.calls.proofs.EarlyLaws.{yes, no}
 use Rattle.reader.proofs.CalledLaws.{asked_first, asked_outside, asked_deep, asked_tree}
@@ -9,27 +8,27 @@ use Rattle.reader.proofs.StorableLaws.{found_within}
 use Rattle.reader.proofs.asked.text_asked.Goals as goal
 
 pub returns-then-not-in_range : goal.returns-then-not-in_range
-returns-then-not-in_range c q =
+returns-then-not-in_range c =
     let i = c.args in
-    asked_first i.table.now (placed q i.place i.count) i.text.now (no (c.in_range.ensures q) (ap not c.if-not-in_range.true))
+    asked_first i.table.now i.queue.now i.text.now (no c.in_range.ensures (ap not c.if-not-in_range.true))
 
 pub tree_asked-requires : goal.tree_asked-requires
 tree_asked-requires c =
-    let shape = shape_is _ _ (yes (c.in_range.ensures empty_queue) (ap not c.if-not-in_range.false)) in
+    let shape = shape_is _ _ (yes c.in_range.ensures (ap not c.if-not-in_range.false)) in
     (shape.table, shape.queue.count, found_within _ _ _ (sym c.scan-scanned.ensures ∙ c.in-Tree.is))
 
 pub returns-in-Outside : goal.returns-in-Outside
-returns-in-Outside c q =
+returns-in-Outside c =
     let i = c.args in
-    asked_outside i.table.now (placed q i.place i.count) i.text.now (yes (c.in_range.ensures q) (ap not c.if-not-in_range.false)) c.scan-scanned.ensures c.in-Outside.is
+    asked_outside i.table.now i.queue.now i.text.now (yes c.in_range.ensures (ap not c.if-not-in_range.false)) c.scan-scanned.ensures c.in-Outside.is
 
 pub returns-in-TooDeep : goal.returns-in-TooDeep
-returns-in-TooDeep c q =
+returns-in-TooDeep c =
     let i = c.args in
-    asked_deep i.table.now (placed q i.place i.count) i.text.now (yes (c.in_range.ensures q) (ap not c.if-not-in_range.false)) c.scan-scanned.ensures c.in-TooDeep.is
+    asked_deep i.table.now i.queue.now i.text.now (yes c.in_range.ensures (ap not c.if-not-in_range.false)) c.scan-scanned.ensures c.in-TooDeep.is
 
 pub returns-in-Tree : goal.returns-in-Tree
-returns-in-Tree c q =
+returns-in-Tree c =
     let i = c.args in
     c.tree_asked.ensures
-    ∙ asked_tree i.table.now (placed q i.place i.count) i.text.now (yes (c.in_range.ensures q) (ap not c.if-not-in_range.false)) c.scan-scanned.ensures _ _ c.in-Tree.is
+    ∙ asked_tree i.table.now i.queue.now i.text.now (yes c.in_range.ensures (ap not c.if-not-in_range.false)) c.scan-scanned.ensures _ _ c.in-Tree.is

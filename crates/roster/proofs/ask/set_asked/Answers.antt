@@ -1,8 +1,14 @@
+use borrow.Author.Rules.{rules}
+use mathlib.Core.Path.{◌≡◌}
+use Rattle.std.specs.Prelude.{Err}
 use Rattle.roster.proofs.PromiseLaws.{set_no, set_yes}
 use Rattle.roster.proofs.ask.set_asked.Goals as goal
 
-pub returns-in-No : goal.returns-in-No
-returns-in-No c = set_no _ _ _ _ _ _ (rw c.in-No.is at c.seat_asked-asked.ensures)
+pub returns-in_err-seat_asked : goal.returns-in_err-seat_asked
+returns-in_err-seat_asked c =
+    let r = c.in_err-seat_asked.field-0.0 in
+    let same : c.from_residual.result ≡ Err r = search rules in
+    rw same (set_no _ _ _ _ _ _ (rw c.in_err-seat_asked.was at c.seat_asked.ensures))
 
-pub returns-in-Yes : goal.returns-in-Yes
-returns-in-Yes c = set_yes _ _ _ _ _ (rw c.in-Yes.is at c.seat_asked-asked.ensures) c.reading_asked.ensures
+pub returns : goal.returns
+returns c = set_yes _ _ _ _ _ (rw c.in_ok-seat_asked.was at c.seat_asked.ensures) c.reading_asked.ensures

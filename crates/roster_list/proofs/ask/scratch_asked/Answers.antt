@@ -1,11 +1,14 @@
-use Rattle.roster_list.proofs.Asking.{scratch_no, scratch_idle, scratch_applied}
+use borrow.Author.Rules.{rules}
+use mathlib.Core.Path.{◌≡◌}
+use Rattle.std.specs.Prelude.{Err}
+use Rattle.roster_list.proofs.Asking.{scratch_no, scratch_done}
 use Rattle.roster_list.proofs.ask.scratch_asked.Goals as goal
 
-pub returns-in-Refused : goal.returns-in-Refused
-returns-in-Refused c = scratch_no (rw (c.empty.ensures, c.in-Refused.is) at c.step-stepped.ensures)
+pub returns-in_err-answer : goal.returns-in_err-answer
+returns-in_err-answer c =
+    let r = c.in_err-answer.field-0.0 in
+    let same : c.from_residual.result ≡ Err r = search rules in
+    rw same (scratch_no (rw (c.empty.ensures, c.in_err-answer.was) at c.step-stepped.ensures))
 
-pub returns-in-Idle : goal.returns-in-Idle
-returns-in-Idle c = scratch_idle (rw (c.empty.ensures, c.in-Idle.is) at c.step-stepped.ensures)
-
-pub returns-in-Applied : goal.returns-in-Applied
-returns-in-Applied c = scratch_applied (rw (c.empty.ensures, c.in-Applied.is) at c.step-stepped.ensures)
+pub returns : goal.returns
+returns c = scratch_done c.in_ok-answer.was (rw c.empty.ensures at c.step-stepped.ensures)

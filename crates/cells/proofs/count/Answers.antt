@@ -1,0 +1,9 @@
+use native.Mathlib.Omega.{arith}
+use Rattle.machine.specs.Step.{counter_word}
+use Rattle.cells.proofs.Words.{read_part, counter_in_cell}
+use Rattle.cells.proofs.count.Goals as goal
+
+pub returns : goal.returns
+returns g c =
+    let k = g.K.Counter.sort in
+    read_part c.args.table.now c.args.index (counter_word k) _ (omega arith) (counter_in_cell k) c.count.ensures

@@ -1,6 +1,0 @@
-use Rattle.machine.specs.Table.{put_words, put_cell}
-use Rattle.cells.proofs.set_new.Goals as goal
-
-pub returns : goal.returns
-unfolding put_cell put_words
-returns c = cc
