@@ -6,15 +6,17 @@ ghost use Rattle.machine.specs.Reached.{is_root};
 ghost use Rattle.machine.specs.Facts.{TableShape};
 ghost use Rattle.machine.specs.ShortWay.{watched_of, stays_root};
 
+use machine::{NameCount, RootCount};
 use questions::is_cell;
 use queue::Packet;
 
 // Whether a cell is a root.
+#[tactic(auto, unfolding(machine::specs::Reached::is_root, machine::specs::Reached::is_protected))]
 pub fn rooted(table: &[u16], index: usize) -> bool
     requires { table_length (suc index) ≤ length table.now }
     ensures { result ≡ is_root table.now index }
 {
-    0 < cells::root_count(table, index).0 || 0 < cells::name_count(table, index).0
+    0 < cells::count::<RootCount>(table, index).0 || 0 < cells::count::<NameCount>(table, index).0
 }
 
 // The word of a taken packet that tells whether anything can be freed.

@@ -15,16 +15,18 @@ use machine::Queue;
 pub fn read_text(table: &mut [u16], queue: Queue, text: &[u8]) -> RowReply
     ensures { ReadCalled table.old queue text.now result.answer table.new result.queue }
 {
-    if let Err(refusal) = text_asked(table, &queue, text) {
-        return RowReply {
+    match text_asked(table, &queue, text) {
+        Err(refusal) => RowReply {
             answer: Err(refusal),
             queue,
-        };
-    }
-    let built = build(table, queue, text);
-    let rest = built.queue;
-    RowReply {
-        answer: Ok(built.word),
-        queue: rest,
+        },
+        Ok(()) => {
+            let built = build(table, queue, text);
+            let rest = built.queue;
+            RowReply {
+                answer: Ok(built.word),
+                queue: rest,
+            }
+        }
     }
 }

@@ -3,7 +3,7 @@ ghost use Rattle.std.specs.Prelude.{◌≡◌, suc, ◌≤◌, length};
 ghost use Rattle.machine.specs.Table.{root_count, table_length, word_at};
 ghost use Rattle.roster_cases.specs.Figures.{cells_of, root_counts, root_count_of, used_cells};
 
-use machine::{AuditAnswer, Finding};
+use machine::{AuditAnswer, Finding, RootCount};
 use state_lines::Store;
 use std::io;
 
@@ -25,7 +25,7 @@ fn root_count_at(table: &[u16], index: usize) -> u64
     requires { table_length (suc index) ≤ length table.now }
     ensures { (result ≡ word_at table.now index root_count) × (result ≤ 65535) }
 {
-    u64::from(cells::root_count(table, index).0)
+    u64::from(cells::count::<RootCount>(table, index).0)
 }
 
 // The sum of the root counts of all cells.

@@ -90,7 +90,7 @@ pub fn count(
     ensures { Counts table.old queue scratch.old word threshold table.new result.queue scratch.new result.count }
 {
     if word == 0 {
-        store::audit(table, queue, scratch);
+        let _ = store::audit(table, queue, scratch);
         return Tallied { queue, count: 0 };
     }
     let kept = settle(table, queue, scratch, RowCall::Up(word, 1));

@@ -116,7 +116,7 @@ pub fn find(table: &mut [u16], queue: Queue, scratch: &mut [u16], word: u16, key
     ensures { Finds table.old queue scratch.old word key table.new result.queue scratch.new result.at result.before }
 {
     if word == 0 {
-        store::audit(table, queue, scratch);
+        let _ = store::audit(table, queue, scratch);
         return Place {
             queue,
             at: 0,

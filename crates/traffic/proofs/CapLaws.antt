@@ -1,7 +1,6 @@
 -- An input of more than 80 bytes is no workload: three numbers of that length together would be too large. So its first 81 bytes tell the workload.
-use Rattle.std.proofs.Common.{◌≡◌, ℕ, suc, ◌+◌, ◌-◌, ◌*◌, ◌^◌, ◌<◌, ◌≤◌, Bool, true, false, cond, ◌&&◌, eqb, ltb, leb, List, [], ◌∷◌, length, take, sym, refl, ap, ◌∙◌, zero-le, arith, length-take-le, take_all, ltb-false, ltb-true, leb-false, leb-true}
+use Rattle.std.proofs.Common.{◌≡◌, ℕ, suc, ◌+◌, ◌-◌, ◌*◌, ◌^◌, ◌<◌, ◌≤◌, Bool, true, false, cond, ◌&&◌, eqb, ltb, leb, List, [], ◌∷◌, length, take, sym, refl, ap, ◌∙◌, zero-le, arith, length-take-le, take_all, ltb-false, ltb-true, leb-false, leb-true, Option, Some, None}
 use borrow.Author.Tests.{eqb-false}
-use Rattle.base_ten.specs.declared.Number.{Number}
 use Rattle.base_ten.specs.Bytes.{digit_zero, digit_nine, line_feed, space, on_first, split, lines_of, words_of}
 use Rattle.base_ten.specs.Numbers.{number_from, zero_alone, number_of}
 use Rattle.base_ten.proofs.NumberLaws.{grown, grown_larger, grown_longer, number_high}
@@ -14,7 +13,7 @@ use Rattle.traffic.specs.Workload.{most_seed, most_count, if_all, by_words, by_l
 abbrev longest : ℕ
 longest = 10
 
-digits_high : (most d : ℕ) (ds : List ℕ) → most < 10 ^ longest → longest ≤ length ds → (d ≡ digit_zero → ⊥) → number_from most 0 (d ∷ ds) ≡ Number.Nothing
+digits_high : (most d : ℕ) (ds : List ℕ) → most < 10 ^ longest → longest ≤ length ds → (d ≡ digit_zero → ⊥) → number_from most 0 (d ∷ ds) ≡ None
 unfolding number_from
 digits_high most d ds small long other = go (leb digit_zero d) refl (leb d digit_nine)
   where
@@ -24,36 +23,36 @@ digits_high most d ds small long other = go (leb digit_zero d) refl (leb d digit
         let more = grown_larger (length ds) 1 (10 * 0 + (d - digit_zero)) (omega arith) in
         omega (arith, one, more)
 
-    go : (t : Bool) → leb digit_zero d ≡ t → (u : Bool) → cond (t && u) (number_from most (10 * 0 + (d - digit_zero)) ds) Number.Nothing ≡ Number.Nothing
+    go : (t : Bool) → leb digit_zero d ≡ t → (u : Bool) → cond (t && u) (number_from most (10 * 0 + (d - digit_zero)) ds) None ≡ None
     go true e true = number_high most (10 * 0 + (d - digit_zero)) ds (high (leb-true digit_zero d e))
     go true e false = refl
     go false e u = refl
 
-number_long : (most : ℕ) (s : List ℕ) → most < 10 ^ longest → longest < length s → number_of most s ≡ Number.Nothing
+number_long : (most : ℕ) (s : List ℕ) → most < 10 ^ longest → longest < length s → number_of most s ≡ None
 unfolding number_of
 number_long most [] small long = refl
 number_long most (d ∷ ds) small long = go (eqb d digit_zero) refl
   where
-    alone : (xs : List ℕ) → longest < suc (length xs) → zero_alone xs ≡ Number.Nothing
+    alone : (xs : List ℕ) → longest < suc (length xs) → zero_alone xs ≡ None
     alone [] h = absurd (never h)
       where
         never : longest < 1 → ⊥
         never p = omega arith
     alone (x ∷ xs) h = refl
 
-    go : (t : Bool) → eqb d digit_zero ≡ t → cond t (zero_alone ds) (number_from most 0 (d ∷ ds)) ≡ Number.Nothing
+    go : (t : Bool) → eqb d digit_zero ≡ t → cond t (zero_alone ds) (number_from most 0 (d ∷ ds)) ≡ None
     go true e = alone ds long
     go false e = digits_high most d ds small (omega arith) (eqb-false d digit_zero e)
 
 -- one number that is missing is enough
-second_missing : (x z : Number) → if_all x Number.Nothing z ≡ Workload.Bad
-second_missing (Number.Value x) z = refl
-second_missing Number.Nothing z = refl
+second_missing : (x z : Option ℕ) → if_all x None z ≡ Workload.Bad
+second_missing (Some x) z = refl
+second_missing None z = refl
 
-third_missing : (x y : Number) → if_all x y Number.Nothing ≡ Workload.Bad
-third_missing (Number.Value x) (Number.Value y) = refl
-third_missing (Number.Value x) Number.Nothing = refl
-third_missing Number.Nothing y = refl
+third_missing : (x y : Option ℕ) → if_all x y None ≡ Workload.Bad
+third_missing (Some x) (Some y) = refl
+third_missing (Some x) None = refl
+third_missing None y = refl
 
 three_long : (a b d : List ℕ) → 3 * longest < length a + length b + length d
     → if_all (number_of most_seed a) (number_of most_count b) (number_of most_count d) ≡ Workload.Bad

@@ -1,7 +1,6 @@
 -- The input of the load program (document 02, A2): "one line with a seed (32 bits), C and a number of calls (each 0 to 65,535), in base ten without
 -- leading zeros and with one space between"; "the input's line feed may lack".
-use Rattle.std.specs.Prelude.{ℕ, List, [], ◌∷◌}
-use Rattle.base_ten.specs.declared.Number.{Number}
+use Rattle.std.specs.Prelude.{ℕ, List, [], ◌∷◌, Option, Some, None}
 use Rattle.base_ten.specs.Bytes.{lines_of, words_of}
 use Rattle.base_ten.specs.Numbers.{number_of}
 use Rattle.traffic.specs.declared.Workload.{Workload}
@@ -14,11 +13,11 @@ most_seed = 4294967295
 abbrev pub most_count : ℕ
 most_count = 65535
 
-abbrev pub if_all : Number → Number → Number → Workload
-if_all (Number.Value seed) (Number.Value c) (Number.Value n) = Workload.Run seed c n
-if_all (Number.Value seed) (Number.Value c) Number.Nothing = Workload.Bad
-if_all (Number.Value seed) Number.Nothing calls = Workload.Bad
-if_all Number.Nothing cells calls = Workload.Bad
+abbrev pub if_all : Option ℕ → Option ℕ → Option ℕ → Workload
+if_all (Some seed) (Some c) (Some n) = Workload.Run seed c n
+if_all (Some seed) (Some c) None = Workload.Bad
+if_all (Some seed) None calls = Workload.Bad
+if_all None cells calls = Workload.Bad
 
 -- three words, with one space between
 unfoldable pub by_words : List (List ℕ) → Workload
