@@ -13,6 +13,7 @@ use machine::{
 };
 
 // In C `struct row_reply`.
+// Kept: (a) the tag is a number here: C reads it, `reply` and `said` of specs/Replies go by it, and an enum has no `repr`.
 #[repr(C)]
 #[derive(Clone, Copy)]
 pub struct Reply {

@@ -13,6 +13,7 @@ use c_layout::{Reply, audit_told, fresh_told, length_told, row_told, step_told};
 use machine::RowCall;
 
 // Any row call: its queue is loaded, the call made, the queue saved.
+// Kept: (d) these three lines stand four times: over a closure each would name table, queue and scratch, `done.queue` and the reply once more.
 fn called(table: &mut [u16], queue: &mut [u16; QUEUE_WORDS], call: RowCall) -> Reply
     ensures { PromiseTold (store table.old (queue_in queue.old) []) (row (call_of call)) result (store table.new (queue_in queue.new) []) }
 {
