@@ -103,10 +103,7 @@ fn write_answer<W: io::Write>(writer: &mut W, answer: RosterAnswer) {
 
 // Every refusal but that for want of a free cell changes nothing.
 fn changes_nothing(answer: RosterAnswer) -> bool {
-    match answer {
-        Ok(Some(_)) | Ok(None) => false,
-        Err(refusal) => !matches!(refusal, Refusal::NoFreeCell),
-    }
+    matches!(answer, Err(refusal) if refusal != Refusal::NoFreeCell)
 }
 
 // A call that the papers decide. Whether table, queue and scratch are as before is told by the checksum of the store, the same for the same words and hardly
@@ -139,10 +136,10 @@ fn is_allowed(call: RosterCall, early: Result<(), Refusal>, answer: RosterAnswer
         RosterCall::Fresh(_) => true,
         _ => match (early, answer) {
             (Ok(()), Err(refusal)) => {
-                matches!(call, RosterCall::Set { .. }) && matches!(refusal, Refusal::NoFreeCell)
+                matches!(call, RosterCall::Set { .. }) && refusal == Refusal::NoFreeCell
             }
             (Ok(()), _) => true,
-            (Err(early), Err(refusal)) => refusal.number() == early.number(),
+            (Err(early), Err(refusal)) => refusal == early,
             (Err(_), _) => false,
         },
     }

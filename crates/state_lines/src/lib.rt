@@ -11,8 +11,5 @@ mod runs;
 
 pub use input::{Call, Numbers, TEXT, input_array, text_of};
 pub use lines::{SCRATCH, Store};
-pub use replies::{
-    NotShown, Reply, Shown, audit_reply, fresh_reply, length_reply, row_reply, step_reply,
-    write_call,
-};
+pub use replies::{NotShown, Reply, Shown, write_call};
 pub use runs::Runs;

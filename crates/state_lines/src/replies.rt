@@ -20,49 +20,59 @@ pub enum Reply {
     Broken(Rule),
 }
 
-pub fn row_reply(answer: RowAnswer) -> Reply
-    ensures { paper_reply result ≡ row_reply answer }
-{
-    match answer {
-        Ok(w) => Reply::Value(w),
-        Err(r) => Reply::Refused(r),
+impl From<RowAnswer> for Reply {
+    ghost from_gives = { λ a r. paper_reply r ≡ row_reply a };
+
+    fn from(answer: RowAnswer) -> Reply {
+        match answer {
+            Ok(word) => Reply::Value(word),
+            Err(refusal) => Reply::Refused(refusal),
+        }
     }
 }
 
-pub fn fresh_reply(answer: FreshAnswer) -> Reply
-    ensures { paper_reply result ≡ fresh_reply answer }
-{
-    match answer {
-        Ok(()) => Reply::Value(0),
-        Err(r) => Reply::Refused(r),
+impl From<FreshAnswer> for Reply {
+    ghost from_gives = { λ a r. paper_reply r ≡ fresh_reply a };
+
+    fn from(answer: FreshAnswer) -> Reply {
+        match answer {
+            Ok(()) => Reply::Value(0),
+            Err(refusal) => Reply::Refused(refusal),
+        }
     }
 }
 
-pub fn step_reply(answer: StepAnswer) -> Reply
-    ensures { paper_reply result ≡ step_reply answer }
-{
-    match answer {
-        Ok(Step::Idle) => Reply::Idle,
-        Ok(Step::Applied { kind, freed }) => Reply::Applied(kind, freed),
-        Err(r) => Reply::Refused(r),
+impl From<StepAnswer> for Reply {
+    ghost from_gives = { λ a r. paper_reply r ≡ step_reply a };
+
+    fn from(answer: StepAnswer) -> Reply {
+        match answer {
+            Ok(Step::Idle) => Reply::Idle,
+            Ok(Step::Applied { kind, freed }) => Reply::Applied(kind, freed),
+            Err(refusal) => Reply::Refused(refusal),
+        }
     }
 }
 
-pub fn audit_reply(answer: AuditAnswer) -> Reply
-    ensures { paper_reply result ≡ audit_answer_reply answer }
-{
-    match answer {
-        Ok(Finding::Sound) => Reply::Sound,
-        Ok(Finding::Broken(r)) => Reply::Broken(r),
-        Err(r) => Reply::Refused(r),
+impl From<AuditAnswer> for Reply {
+    ghost from_gives = { λ a r. paper_reply r ≡ audit_answer_reply a };
+
+    fn from(answer: AuditAnswer) -> Reply {
+        match answer {
+            Ok(Finding::Sound) => Reply::Sound,
+            Ok(Finding::Broken(rule)) => Reply::Broken(rule),
+            Err(refusal) => Reply::Refused(refusal),
+        }
     }
 }
 
 // Writing a text: the value is its length, in 16 bits as all values of a list.
-pub fn length_reply(answer: LengthAnswer) -> Reply {
-    match answer {
-        Ok(n) => Reply::Value((n % 65536) as u16),
-        Err(r) => Reply::Refused(r),
+impl From<LengthAnswer> for Reply {
+    fn from(answer: LengthAnswer) -> Reply {
+        match answer {
+            Ok(n) => Reply::Value((n % 65536) as u16),
+            Err(refusal) => Reply::Refused(refusal),
+        }
     }
 }
 

@@ -48,38 +48,34 @@ impl TryFrom<Call> for Case {
 }
 
 fn row(done: RowReply) -> (Reply, Queue) {
-    (state_lines::row_reply(done.answer), done.queue)
+    (Reply::from(done.answer), done.queue)
 }
 
 fn fresh(table: &mut [u16], queue: Queue, c: u16) -> (Reply, Queue) {
     let done = store::fresh(table, queue, c);
-    (state_lines::fresh_reply(done.answer), done.queue)
+    (Reply::from(done.answer), done.queue)
 }
 
 fn step(table: &mut [u16], queue: Queue, scratch: &mut [u16]) -> (Reply, Queue) {
     let done = store::step(table, queue, scratch);
-    (state_lines::step_reply(done.answer), done.queue)
+    (Reply::from(done.answer), done.queue)
 }
 
 fn audit(table: &[u16], queue: Queue, scratch: &mut [u16]) -> (Reply, Queue) {
     let answer = store::audit(table, queue, scratch);
-    (state_lines::audit_reply(answer), queue)
+    (Reply::from(answer), queue)
 }
 
 // The text is put, and then written over itself by the call that hands back the part which it fills: the two must agree on its length.
 fn write(table: &[u16], queue: Queue, word: u16, buffer: &mut [u8]) -> (Reply, Queue) {
     let put = store::put_text(table, queue, word, buffer);
     let handed = store::write_text(table, queue, word, buffer).len();
-    (state_lines::length_reply(agreed(put, handed)), queue)
+    (Reply::from(agreed(put, handed)), queue)
 }
 
 // What put_text told, where the part handed back is as long; else a refusal that no writing has.
 fn agreed(put: LengthAnswer, handed: usize) -> LengthAnswer {
-    let told = match put {
-        Ok(n) => n,
-        Err(_) => 0,
-    };
-    if told == handed {
+    if put.unwrap_or(0) == handed {
         put
     } else {
         Err(Refusal::NumberOutOfRange)
