@@ -44,7 +44,6 @@ fn free_cells(table: &[u16]) -> usize
         .count()
 }
 
-#[tactic(auto, using(crate::proofs::Tests::index_of), unfolding(crate::specs::FreeChain::is_free_cell, machine::specs::Table::is_free, machine::specs::Words::is_cell))]
 fn is_free_cell(table: &[u16], w: u16) -> bool
     requires { TableShape table.now }
     ensures { result ≡ is_free_cell table.now w }

@@ -8,7 +8,6 @@ ghost use Rattle.audit_cells.specs.Cells.{counts_sound, field_holds};
 use machine::{CellCount, FIRST_ATOM, Limited, RootCount};
 
 // A word is nil, an atom or a cell in use.
-#[tactic(auto, using(crate::proofs::Tests::index_of), unfolding(machine::specs::Audit::field_sound, machine::specs::Words::is_nil, machine::specs::Words::is_atom, machine::specs::Words::is_cell))]
 pub fn field_sound(table: &[u16], w: u16) -> bool
     requires { TableShape table.now }
     ensures { result ≡ field_sound table.now w }

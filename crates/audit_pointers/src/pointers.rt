@@ -41,7 +41,6 @@ pub(crate) fn all_within(scratch: &[u16], c: u16) -> bool
         .all(|count| *count <= CellCount::CEILING)
 }
 
-#[tactic(auto, using(audit_cells::proofs::Tests::index_of), unfolding(crate::specs::PointerCounts::word_within, crate::specs::PointerCounts::count_within, machine::specs::Words::is_cell, machine::specs::Table::scratch_words))]
 pub(crate) fn word_within(scratch: &[u16], c: u16, w: u16) -> bool
     requires { scratch_words c ≤ length scratch.now }
     ensures { result ≡ word_within c scratch.now w }
