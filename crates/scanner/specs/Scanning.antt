@@ -1,5 +1,5 @@
 -- How far a scan has come: its locals are what matters of the open lists that the definition of parsing has at that place.
-use Rattle.std.specs.Prelude.{◌≡◌, Bool, ◌||◌, List, [], ◌∷◌, ◌++◌, map, ℕ, suc, pred, ◌+◌, ◌≤◌, ◌<◌, max, eqb, length, drop, Option, Some, None}
+use Rattle.std.specs.Prelude.{◌≡◌, Bool, ◌||◌, List, [], ◌∷◌, ◌++◌, map, ℕ, suc, pred, ◌+◌, ◌≤◌, max, eqb, length, drop, Option, Some, None}
 use Rattle.notation.specs.Trees.{Tree, pairs}
 use Rattle.notation.specs.Grammar.{Token, opening, closing, dot, number}
 use Rattle.notation.specs.Parse.{Mark, token, foreign, Frame, plain, dotted, full, State, within, deliver, on_token, marks_of, parsed_from, tree_of, parse, none}
