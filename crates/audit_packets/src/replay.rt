@@ -35,7 +35,7 @@ fn held_after(queue: &Queue, j: u16, x: u16, root: RootCount) -> HeldSums
     requires { (queue.now.place < slots) × (j ≤ slots) }
     ensures { HeldAfter (oldest queue.now j) x root.0 result }
 {
-    let sums = queue::waiting_changes(&queue.kinds, &queue.a, &queue.b, queue.place, j, x);
+    let sums = queue::waiting_changes(queue, j, x);
     sums.held.with(root)
 }
 

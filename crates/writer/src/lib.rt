@@ -20,14 +20,7 @@ fn word_held(table: &[u16], queue: &Queue, word: u16) -> bool
     let Some(index) = counts::cell_index(table, word) else {
         return true;
     };
-    let s = queue::waiting_changes(
-        &queue.kinds,
-        &queue.a,
-        &queue.b,
-        queue.place,
-        queue.count,
-        word,
-    );
+    let s = queue::waiting_changes(queue, queue.count, word);
     s.held.with(cells::count(table, index)).at_least(1)
 }
 
