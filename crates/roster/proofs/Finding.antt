@@ -1,8 +1,8 @@
 -- What a search of a roster shows: the seat is missing, or the list is parted at it.
+use Rattle.std.specs.Prelude.{Option, Some, None}
 use mathlib.Core.Path.{◌≡◌, refl, sym, ap, subst, ◌∙◌}
-use mathlib.Core.Logic.{◌≢◌}
 use mathlib.Core.Bool.{true}
-use mathlib.Core.List.{List, [], ◌∷◌, ◌++◌, append-nil}
+use mathlib.Core.List.{List, [], ◌∷◌, ◌++◌}
 use Prim.Native.Nat.{ℕ, ◌≤◌}
 use native.Mathlib.Omega.{arith}
 use lib.ListN.{length}
@@ -15,10 +15,10 @@ use Rattle.resting.specs.Rests.{At, After}
 use Rattle.readings.specs.Readings.{Entry, missing, looked_up, without}
 use Rattle.readings.specs.Calls.{seats}
 use Rattle.roster_list.specs.Nodes.{Node, atom_of, entries_of, Leads}
-use Rattle.roster_list.specs.Walks.{Walked, NoneOf, Ends, Finds}
-use Rattle.roster_list.proofs.Held.{nil_drops}
+use Rattle.roster_list.specs.declared.walk.Place.{Place}
+use Rattle.roster_list.specs.Walks.{Walked, NoneOf, Begins, Sought, Finds}
 use Rattle.roster_list.proofs.SeatLaws.{few_seats}
-use Rattle.roster_list.proofs.EntryLaws.{looked_past, looked_nowhere, without_none}
+use Rattle.roster_list.proofs.EntryLaws.{looked_nowhere, without_none}
 use Rattle.roster_list.proofs.CellLaws.{entries_many}
 use Rattle.roster.specs.Promise.{RosterOf}
 use Rattle.roster_changes.specs.Changes.{Rostered}
@@ -45,46 +45,34 @@ pub record Found (c : ℕ) (s₀ : List ℕ) (f : ℕ → Fields) (w : ℕ) (ns 
   pub on : Leads c f at (node ∷ ys) 0
   pub after : After c s₀ (at ∷ w ∷ []) f t q s
 
-module _ {t : List ℕ} {q : Queue} {s t' : List ℕ} {q' : Queue} {s' : List ℕ} {w key at before : ℕ} (g : Finds t q s w key t' q' s' at before) (seat : ℕ) (e : key ≡ atom_of seat)
-    (es : List Entry) (r : RosterOf t q w es) (enough : scratch_enough t s ≡ true) where
-  abbrev c : ℕ
-  c = capacity t
-
-  abbrev f : ℕ → Fields
-  f = r.fields
-
-  abbrev ns : List Node
-  ns = r.listed.nodes
-
-  search : (z : Walked (NoneOf key) c s (w ∷ []) f w ns 0 t' q' s' at before) × Ends key z.ys
-  search = g.shown c s f ns (roster_at r s enough) r.listed.leads (few_nodes r)
-
-  z : Walked (NoneOf key) c s (w ∷ []) f w ns 0 t' q' s' at before
-  z = search.0
+module _ {t : List ℕ} {q : Queue} {s : List ℕ} {w key : ℕ} (seat : ℕ) (e : key ≡ atom_of seat) (es : List Entry) (r : RosterOf t q w es)
+    (enough : scratch_enough t s ≡ true) where
+  search : {t' : List ℕ} {q' : Queue} {s' : List ℕ} {place : Option Place} → Finds t q s w key t' q' s' place
+      → Sought key (capacity t) s (w ∷ []) r.fields w r.listed.nodes t' q' s' place
+  search g = g.shown (capacity t) s r.fields r.listed.nodes (roster_at r s enough) r.listed.leads (few_nodes r)
 
   -- it is missing
-  pub seat_missing : at ≡ 0 → (looked_up es seat ≡ missing) × (without es seat ≡ es) × Rostered c s w es t' q' s'
-  seat_missing nil = go z.ys refl z.on
-    where
-      go : (ys : List Node) → z.ys ≡ ys → Leads c f at ys 0 → (looked_up es seat ≡ missing) × (without es seat ≡ es) × Rostered c s w es t' q' s'
-      go [] d on =
-          let none : NoneOf (atom_of seat) z.xs = subst (λ (k : ℕ). NoneOf k z.xs) e z.known in
-          let all : es ≡ entries_of (z.xs ++ []) = sym r.listed.same ∙ ap entries_of (z.parts ∙ ap (λ (l : List Node). z.xs ++ l) d) in
-          let same : es ≡ entries_of z.xs = all ∙ ap entries_of (append-nil z.xs) in (
-            ap (λ (l : List Entry). looked_up l seat) all ∙ looked_past seat z.xs [] none ∙ looked_nowhere seat,
-            ap (λ (l : List Entry). without l seat) same ∙ without_none seat z.xs none ∙ sym same,
-            record { fields = f; after = nil_drops (rw nil at z.after); listed = r.listed },
-          )
-      go (n ∷ ys) d on = absurd (omega (arith, on.0.here, nil))
+  pub seat_missing : {t' : List ℕ} {q' : Queue} {s' : List ℕ} → Finds t q s w key t' q' s' None
+      → (looked_up es seat ≡ missing) × (without es seat ≡ es) × Rostered (capacity t) s w es t' q' s'
+  seat_missing g =
+      let ns = r.listed.nodes in
+      let z = search g in
+      let none : NoneOf (atom_of seat) ns = subst (λ (k : ℕ). NoneOf k ns) e z.0 in
+      let same : es ≡ entries_of ns = sym r.listed.same in (
+        ap (λ (l : List Entry). looked_up l seat) same ∙ looked_nowhere seat ns none,
+        ap (λ (l : List Entry). without l seat) same ∙ without_none seat ns none ∙ sym same,
+        record { fields = r.fields; after = z.1; listed = r.listed },
+      )
 
   -- or found
-  pub seat_found : at ≢ 0 → Found c s f w ns seat at before t' q' s'
-  unfolding z
-  seat_found some = go z.ys refl z.on search.1
+  pub seat_found : {t' : List ℕ} {q' : Queue} {s' : List ℕ} {place : Place} → Finds t q s w key t' q' s' (Some place)
+      → Found (capacity t) s r.fields w r.listed.nodes seat place.at place.before t' q' s'
+  seat_found {t'} {q'} {s'} {place} g = let z = search g in go z.0 z.0.ys refl z.0.on z.1
     where
-      go : (ys : List Node) → z.ys ≡ ys → Leads c f at ys 0 → Ends key z.ys → Found c s f w ns seat at before t' q' s'
-      go [] d on h = absurd (some on)
-      go (n ∷ ys) d on h =
+      go : (z : Walked (NoneOf key) (capacity t) s (w ∷ []) r.fields w r.listed.nodes 0 t' q' s' place.at place.before) → (ys : List Node) → z.ys ≡ ys
+          → Leads (capacity t) r.fields place.at ys 0 → Begins key z.ys → Found (capacity t) s r.fields w r.listed.nodes seat place.at place.before t' q' s'
+      go z [] d on h = absurd (rw d at h)
+      go z (n ∷ ys) d on h =
           let same : atom_of n.entry.seat ≡ atom_of seat = (rw d at h) ∙ e in
           record {
             xs = z.xs;

@@ -1,4 +1,5 @@
 -- The calls past their questions give what the plain list gives.
+use Rattle.std.specs.Prelude.{Some, None}
 use mathlib.Core.Path.{◌≡◌, refl, sym, ap, subst, ◌∙◌}
 use mathlib.Core.Logic.{◌≢◌}
 use mathlib.Core.Bool.{true}
@@ -22,6 +23,7 @@ use Rattle.readings.specs.Readings.{Entry, Found, found, looked_up, replaced, wi
 use Rattle.readings.specs.Calls.{RosterCall, set, look_up, remove, count, RosterReply, value, absent, refused, seats, most_value, is_seat, early_roster}
 use Rattle.readings.specs.Answers.{Given, given, has_room, found_reply, answered}
 use Rattle.roster_list.specs.Nodes.{Node, atom_of, entries_of, NodeAt, Leads, put_right}
+use Rattle.roster_list.specs.declared.walk.Place.{Place}
 use Rattle.roster_list.specs.Walks.{Finds, Counts}
 use Rattle.roster_list.proofs.Turning.{node_cell}
 use Rattle.roster_list.proofs.EntryLaws.{changed, looked_past, looked_here, replaced_at, without_at, proper_changed, apart_changed, proper_out, apart_out}
@@ -134,31 +136,27 @@ last_of c f w (n ∷ m ∷ ns) v some h =
     let l = last_of c f (f w).right (m ∷ ns) v (λ e. omega arith) h.1 in
     record { xs = n ∷ l.xs; node = l.node; at = l.at; parts = ap (λ (x : List Node). n ∷ x) l.parts; to = (h.0, l.to); here = l.here; next = l.next }
 
-module _ {t : List ℕ} {q : Queue} {s t₁ : List ℕ} {q₁ : Queue} {s₁ : List ℕ} {w seat key at before : ℕ} (atom : seat ≤ most_value → key ≡ atom_of seat)
-    (g : Finds t q s w key t₁ q₁ s₁ at before) where
-  abbrev u : Store
-  u = store t q s
-
+module _ {t : List ℕ} {q : Queue} {s t₁ : List ℕ} {q₁ : Queue} {s₁ : List ℕ} {w seat key : ℕ} (atom : seat ≤ most_value → key ≡ atom_of seat) where
   -- Look up.
-  pub read_absent : at ≡ 0 → Past u w (look_up seat) absent (store t₁ q₁ s₁) w
+  pub read_absent : Finds t q s w key t₁ q₁ s₁ None → Past (store t q s) w (look_up seat) absent (store t₁ q₁ s₁) w
   unfolding answered
-  read_absent nil = record {
+  read_absent g = record {
     refusal = λ m e. not_absent e;
     exact = λ e es r.
-        let y = look_early u seat e in
-        let z = seat_missing g seat (atom (seat_value seat y.0)) es r y.1 nil in
+        let y = look_early (store t q s) seat e in
+        let z = seat_missing seat (atom (seat_value seat y.0)) es r y.1 g in
         kept (given absent es) (ap (λ (x : Found). given (found_reply x) es) z.0) refl z.2;
     runs = g.runs;
   }
 
-  module _ {t₂ : List ℕ} {q₂ : Queue} {s₂ : List ℕ} (some : at ≢ 0) where
-    pub read_found : {v : ℕ} → ReadsOut t₁ q₁ s₁ at t₂ q₂ s₂ v → Past u w (look_up seat) (value v) (store t₂ q₂ s₂) w
+  module _ {t₂ : List ℕ} {q₂ : Queue} {s₂ : List ℕ} {place : Place} (g : Finds t q s w key t₁ q₁ s₁ (Some place)) where
+    pub read_found : {v : ℕ} → ReadsOut t₁ q₁ s₁ place.at t₂ q₂ s₂ v → Past (store t q s) w (look_up seat) (value v) (store t₂ q₂ s₂) w
     unfolding answered
     read_found {v} d = record {
       refusal = λ m e. not_refused e;
       exact = λ e es r.
-          let y = look_early u seat e in
-          let z = seat_found g seat (atom (seat_value seat y.0)) es r y.1 some in
+          let y = look_early (store t q s) seat e in
+          let z = seat_found seat (atom (seat_value seat y.0)) es r y.1 g in
           let o = d.shown (capacity t) s (w ∷ []) r.fields z.node (omega arith) z.on.0 z.after.at in
           let there : looked_up es seat ≡ found z.node.entry.reading =
           ap (λ (l : List Entry). looked_up l seat) (sym r.listed.same ∙ ap entries_of z.parts)
@@ -169,13 +167,13 @@ module _ {t : List ℕ} {q : Queue} {s t₁ : List ℕ} {q₁ : Queue} {s₁ : L
     }
 
     -- Set, of a seat that is present.
-    pub set_present : {reading : ℕ} → Replaces t₁ q₁ s₁ at reading t₂ q₂ s₂ → Past u w (set seat reading) (value 0) (store t₂ q₂ s₂) w
+    pub set_present : {reading : ℕ} → Replaces t₁ q₁ s₁ place.at reading t₂ q₂ s₂ → Past (store t q s) w (set seat reading) (value 0) (store t₂ q₂ s₂) w
     unfolding answered has_room with_seat
     set_present {reading} d = record {
       refusal = λ m e. not_refused e;
       exact = λ e es r.
-          let y = set_early u seat reading e in
-          let z = seat_found g seat (atom (seat_value seat y.0)) es r y.1 some in
+          let y = set_early (store t q s) seat reading e in
+          let z = seat_found seat (atom (seat_value seat y.0)) es r y.1 g in
           let o = d.shown (capacity t) s (w ∷ []) r.fields z.node (omega arith) y.2 z.on.0 z.after.at in
           let all : es ≡ entries_of (z.xs ++ (z.node ∷ z.ys)) = sym r.listed.same ∙ ap entries_of z.parts in
           let there : looked_up es seat ≡ found z.node.entry.reading =
@@ -187,7 +185,7 @@ module _ {t : List ℕ} {q : Queue} {s t₁ : List ℕ} {q₁ : Queue} {s₁ : L
             after = o;
             listed = record {
               nodes = z.xs ++ (changed z.node reading ∷ z.ys);
-              leads = leads_changed (capacity t) r.fields w at z.xs z.node z.ys z.to z.on (rw z.parts at r.listed.apart) reading;
+              leads = leads_changed (capacity t) r.fields w place.at z.xs z.node z.ys z.to z.on (rw z.parts at r.listed.apart) reading;
               apart = apart_changed z.xs z.node z.ys reading (rw z.parts at r.listed.apart);
               same = sym new;
               proper = rw new (proper_changed z.xs z.node z.ys reading (rw all at r.listed.proper));
@@ -197,59 +195,59 @@ module _ {t : List ℕ} {q : Queue} {s t₁ : List ℕ} {q₁ : Queue} {s₁ : L
     }
 
     -- Remove.
-    pub removed_first : {next : ℕ} → before ≡ 0 → DropsFirst t₁ q₁ s₁ w at t₂ q₂ s₂ next → Past u w (remove seat) (value 0) (store t₂ q₂ s₂) next
+    pub removed_first : {next : ℕ} → place.before ≡ 0 → DropsFirst t₁ q₁ s₁ w place.at t₂ q₂ s₂ next → Past (store t q s) w (remove seat) (value 0) (store t₂ q₂ s₂) next
     removed_first {next} first d = record {
       refusal = λ m e. not_refused e;
       exact = λ e es r.
-          let y = remove_early u seat e in
-          let z = seat_found g seat (atom (seat_value seat y.0)) es r y.1 some in
-          let at_word : at ≡ w = (no_nodes (capacity t) r.fields w z.xs at (z.passed ∙ first) z.to).1 in
-          let o = d.shown (capacity t) s r.fields (rw (← at_word) (node_cell (capacity t) r.fields at z.node z.on.0)) at_word z.after.at in
-          let is : next ≡ (r.fields at).right = o.0 ∙ ap (λ (x : ℕ). (r.fields x).right) (sym at_word) in
-          let none = (no_nodes (capacity t) r.fields w z.xs at (z.passed ∙ first) z.to).0 in
+          let y = remove_early (store t q s) seat e in
+          let z = seat_found seat (atom (seat_value seat y.0)) es r y.1 g in
+          let at_word : place.at ≡ w = (no_nodes (capacity t) r.fields w z.xs place.at (z.passed ∙ first) z.to).1 in
+          let o = d.shown (capacity t) s r.fields (rw (← at_word) (node_cell (capacity t) r.fields place.at z.node z.on.0)) at_word z.after.at in
+          let is : next ≡ (r.fields place.at).right = o.0 ∙ ap (λ (x : ℕ). (r.fields x).right) (sym at_word) in
+          let none = (no_nodes (capacity t) r.fields w z.xs place.at (z.passed ∙ first) z.to).0 in
           removed r z r.fields o.1 (subst (λ (l : List Node). Leads (capacity t) r.fields next (l ++ z.ys) 0) (sym none) (rw is z.on.1));
       runs = runs_then g.runs d.runs;
     }
 
-    pub removed_later : before ≢ 0 → LinksPast t₁ q₁ s₁ w at (before - 1) t₂ q₂ s₂ → Past u w (remove seat) (value 0) (store t₂ q₂ s₂) w
+    pub removed_later : place.before ≢ 0 → LinksPast t₁ q₁ s₁ w place.at (place.before - 1) t₂ q₂ s₂ → Past (store t q s) w (remove seat) (value 0) (store t₂ q₂ s₂) w
     removed_later later d = record {
       refusal = λ m e. not_refused e;
       exact = λ e es r.
-          let y = remove_early u seat e in
-          let z = seat_found g seat (atom (seat_value seat y.0)) es r y.1 some in
-          let l = last_of (capacity t) r.fields w z.xs at (λ p. later (sym z.passed ∙ p)) z.to in
+          let y = remove_early (store t q s) seat e in
+          let z = seat_found seat (atom (seat_value seat y.0)) es r y.1 g in
+          let l = last_of (capacity t) r.fields w z.xs place.at (λ p. later (sym z.passed ∙ p)) z.to in
           let parts : r.listed.nodes ≡ l.xs ++ (l.node ∷ z.node ∷ z.ys) =
           z.parts ∙ ap (λ (x : List Node). x ++ (z.node ∷ z.ys)) l.parts ∙ append_assoc l.xs (l.node ∷ []) (z.node ∷ z.ys) in
           let on : Leads (capacity t) r.fields l.at (l.node ∷ z.node ∷ z.ys) 0 = (l.here, rw l.next z.on) in
-          let long : length l.xs ≡ before - 1 = omega (arith, z.passed, ap length l.parts, length-append l.xs (l.node ∷ [])) in
+          let long : length l.xs ≡ place.before - 1 = omega (arith, z.passed, ap length l.parts, length-append l.xs (l.node ∷ [])) in
           let few : length (l.xs ++ (l.node ∷ z.node ∷ z.ys)) ≤ seats = omega (arith, few_nodes r, ap length parts) in
           let o = d.shown (capacity t) s r.fields l.xs l.node z.node z.ys l.at l.to on (sym l.next) long few z.after.at in
           let past = leads_past (capacity t) r.fields w l.at l.xs l.node z.node z.ys l.to on (rw parts at r.listed.apart) in
           let out : l.xs ++ (l.node ∷ z.ys) ≡ z.xs ++ z.ys = sym (append_assoc l.xs (l.node ∷ []) z.ys) ∙ ap (λ (x : List Node). x ++ z.ys) (sym l.parts) in
-          removed r z (put_right r.fields l.at (r.fields at).right) o (rw (l.next, out) at past);
+          removed r z (put_right r.fields l.at (r.fields place.at).right) o (rw (l.next, out) at past);
       runs = runs_then g.runs d.runs;
     }
 
-  pub removed_absent : at ≡ 0 → Past u w (remove seat) absent (store t₁ q₁ s₁) w
+  pub removed_absent : Finds t q s w key t₁ q₁ s₁ None → Past (store t q s) w (remove seat) absent (store t₁ q₁ s₁) w
   unfolding answered
-  removed_absent nil = record {
+  removed_absent g = record {
     refusal = λ m e. not_absent e;
     exact = λ e es r.
-        let y = remove_early u seat e in
-        let z = seat_missing g seat (atom (seat_value seat y.0)) es r y.1 nil in
+        let y = remove_early (store t q s) seat e in
+        let z = seat_missing seat (atom (seat_value seat y.0)) es r y.1 g in
         kept (given absent es) (rw (z.0, z.1) refl) refl z.2;
     runs = g.runs;
   }
 
   -- Set, of a new seat.
-  pub set_new : {reading : ℕ} {reply : RosterReply} {t₂ : List ℕ} {q₂ : Queue} {s₂ : List ℕ} {w' : ℕ} → at ≡ 0 → Adds t₁ q₁ s₁ w seat reading reply t₂ q₂ s₂ w'
-      → Past u w (set seat reading) reply (store t₂ q₂ s₂) w'
+  pub set_new : {reading : ℕ} {reply : RosterReply} {t₂ : List ℕ} {q₂ : Queue} {s₂ : List ℕ} {w' : ℕ} → Finds t q s w key t₁ q₁ s₁ None → Adds t₁ q₁ s₁ w seat reading reply t₂ q₂ s₂ w'
+      → Past (store t q s) w (set seat reading) reply (store t₂ q₂ s₂) w'
   unfolding answered has_room with_seat
-  set_new {reading} nil d = record {
+  set_new {reading} g d = record {
     refusal = d.refusal;
     exact = λ e es r.
-        let y = set_early u seat reading e in
-        let z = seat_missing g seat (atom (seat_value seat y.0)) es r y.1 nil in
+        let y = set_early (store t q s) seat reading e in
+        let z = seat_missing seat (atom (seat_value seat y.0)) es r y.1 g in
         let o = d.shown (capacity t) s es y.0 y.2 z.0 z.2 in
         kept (added (capacity t) es seat reading) (rw z.0 refl) o.0 o.1;
     runs = runs_then g.runs d.runs;

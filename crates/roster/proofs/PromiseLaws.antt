@@ -1,25 +1,22 @@
 -- The promise from its parts: refused by an early question, or past them.
 use Rattle.std.specs.Prelude.{Ok, Err}
 use mathlib.Core.Path.{◌≡◌, refl, sym, ap, ◌∙◌}
-use mathlib.Core.Bool.{true, false, ◌&&◌}
+use mathlib.Core.Bool.{true, false}
 use mathlib.Core.List.{List, ◌∷◌, ◌++◌}
 use Prim.Native.Nat.{ℕ, zero, suc, ◌≤◌, ◌<◌}
 use native.Mathlib.Omega.{arith}
-use lib.Dec.{leb}
-use borrow.Author.Tests.{leb-true, le-leb, lt-leb, lt-ltb, le-ltb}
+use borrow.Author.Tests.{le-leb, lt-leb, lt-ltb, le-ltb}
 use Rattle.machine.specs.declared.Queue.{Queue}
 use Rattle.machine.specs.declared.Refusal.{Refusal}
 use Rattle.machine.specs.declared.Refusal.TheVariants.{SeatOutOfRange}
-use Rattle.machine.specs.Answers.{Asked}
-use Rattle.machine.specs.Answers.{refusal_number, asked_number}
+use Rattle.machine.specs.Answers.{Asked, refusal_number, asked_number}
 use Rattle.machine.specs.Words.{first_atom, clip}
 use Rattle.machine.specs.Calls.{Store, store}
 use Rattle.machine.specs.Questions.{Question, ask, first_no}
-use Rattle.machine.proofs.Range.{and_both, and_first, and_second, refuted}
 use Rattle.machine.proofs.Answers.{refusal_some}
 use Rattle.machine.proofs.Questions.{first_no_yes, first_no_no, first_no_append, first_no_none}
 use Rattle.resting.proofs.Runs.{runs_none}
-use Rattle.readings.specs.Calls.{RosterCall, set, look_up, remove, count, RosterReply, refused, seats, most_value, is_seat, ask_store, ask_reading, early_roster}
+use Rattle.readings.specs.Calls.{RosterCall, set, look_up, remove, count, RosterReply, refused, most_value, is_seat, ask_store, ask_reading, early_roster}
 use Rattle.roster_list.specs.Asking.{Asks}
 use Rattle.roster.specs.Promise.{RosterPromise, Past}
 
@@ -65,18 +62,6 @@ unfolding early_roster
 remove_asks s x = refl
 
 -- 15
-pub seat_low : (seat : ℕ) → seat < 1 → is_seat seat ≡ false
-unfolding is_seat
-seat_low seat l = refuted (leb 1 seat && leb seat seats) (λ h. omega (arith, leb-true 1 seat (and_first (leb 1 seat) (leb seat seats) h)))
-
-pub seat_high : (seat : ℕ) → seats < seat → is_seat seat ≡ false
-unfolding is_seat
-seat_high seat l = refuted (leb 1 seat && leb seat seats) (λ h. omega (arith, leb-true seat seats (and_second (leb 1 seat) (leb seat seats) h)))
-
-pub seat_within : (seat : ℕ) → 1 ≤ seat → seat ≤ seats → is_seat seat ≡ true
-unfolding is_seat
-seat_within seat a b = and_both (le-leb 1 seat a) (le-leb seat seats b)
-
 module _ (seat : ℕ) {ks : List Question} {t s : List ℕ} where
   pub asks_out : is_seat seat ≡ false → Asks (ask 15 (is_seat seat) ∷ ks) t s (Err SeatOutOfRange) t s
   asks_out e = record { number = sym (first_no_no (ask 15 (is_seat seat)) ks e); table = refl; scratch = refl }

@@ -9,13 +9,16 @@ ghost use Rattle.roster_list.specs.Asking.{Asks};
 use machine::{Asked, CLIP, FIRST_ATOM, Queue, Refusal};
 use readings::SEATS;
 
-pub fn seat_asked(table: &mut [u16], queue: Queue, scratch: &mut [u16], seat: u16) -> Asked
-    ensures { Asks (ask 15 (is_seat seat) ∷ ask_store (store table.old queue scratch.old)) table.old scratch.old result table.new scratch.new }
+fn is_seat(seat: u16) -> bool
+    ensures { result ≡ is_seat seat }
 {
-    if seat < 1 {
-        return Err(Refusal::SeatOutOfRange);
-    }
-    if SEATS < seat {
+    (1..=SEATS).contains(&seat)
+}
+
+pub fn seat_asked(table: &mut [u16], queue: &Queue, scratch: &mut [u16], seat: u16) -> Asked
+    ensures { Asks (ask 15 (is_seat seat) ∷ ask_store (store table.old queue.now scratch.old)) table.old scratch.old result table.new scratch.new }
+{
+    if !is_seat(seat) {
         return Err(Refusal::SeatOutOfRange);
     }
     roster_list::store_asked(table, queue, scratch)
@@ -35,12 +38,12 @@ fn reading_asked(reading: u16) -> Asked
 
 pub fn set_asked(
     table: &mut [u16],
-    queue: Queue,
+    queue: &Queue,
     scratch: &mut [u16],
     seat: u16,
     reading: u16,
 ) -> Asked
-    ensures { Asks (early_roster (store table.old queue scratch.old) (set seat reading)) table.old scratch.old result table.new scratch.new }
+    ensures { Asks (early_roster (store table.old queue.now scratch.old) (set seat reading)) table.old scratch.old result table.new scratch.new }
 {
     seat_asked(table, queue, scratch, seat)?;
     reading_asked(reading)

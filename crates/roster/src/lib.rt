@@ -3,6 +3,7 @@
 #![tactic(auto)]
 
 mod ask;
+mod in_place;
 mod past;
 
 ghost use Rattle.machine.specs.Calls.{store};
@@ -24,13 +25,13 @@ pub fn set(
 ) -> Replied
     ensures { RosterPromise (store table.old queue scratch.old) word (set seat reading) (roster_reply result.answer) (store table.new result.queue scratch.new) result.word }
 {
-    match ask::set_asked(table, queue, scratch, seat, reading) {
-        Err(refusal) => Replied {
-            answer: Err(refusal),
-            queue,
-            word,
-        },
-        Ok(()) => past::seat_set(table, queue, word, scratch, seat, reading),
+    let mut queue = queue;
+    let mut word = word;
+    let answer = in_place::set(table, &mut queue, &mut word, scratch, seat, reading);
+    Replied {
+        answer,
+        queue,
+        word,
     }
 }
 
@@ -44,13 +45,12 @@ pub fn look_up(
 ) -> Replied
     ensures { RosterPromise (store table.old queue scratch.old) word (look_up seat) (roster_reply result.answer) (store table.new result.queue scratch.new) result.word }
 {
-    match ask::seat_asked(table, queue, scratch, seat) {
-        Err(refusal) => Replied {
-            answer: Err(refusal),
-            queue,
-            word,
-        },
-        Ok(()) => past::seat_read(table, queue, word, scratch, seat),
+    let mut queue = queue;
+    let answer = in_place::look_up(table, &mut queue, word, scratch, seat);
+    Replied {
+        answer,
+        queue,
+        word,
     }
 }
 
@@ -58,13 +58,13 @@ pub fn look_up(
 pub fn remove(table: &mut [u16], queue: Queue, word: u16, scratch: &mut [u16], seat: u16) -> Replied
     ensures { RosterPromise (store table.old queue scratch.old) word (remove seat) (roster_reply result.answer) (store table.new result.queue scratch.new) result.word }
 {
-    match ask::seat_asked(table, queue, scratch, seat) {
-        Err(refusal) => Replied {
-            answer: Err(refusal),
-            queue,
-            word,
-        },
-        Ok(()) => past::seat_removed(table, queue, word, scratch, seat),
+    let mut queue = queue;
+    let mut word = word;
+    let answer = in_place::remove(table, &mut queue, &mut word, scratch, seat);
+    Replied {
+        answer,
+        queue,
+        word,
     }
 }
 
@@ -78,12 +78,11 @@ pub fn count(
 ) -> Replied
     ensures { RosterPromise (store table.old queue scratch.old) word (count threshold) (roster_reply result.answer) (store table.new result.queue scratch.new) result.word }
 {
-    match roster_list::store_asked(table, queue, scratch) {
-        Err(refusal) => Replied {
-            answer: Err(refusal),
-            queue,
-            word,
-        },
-        Ok(()) => past::seats_counted(table, queue, word, scratch, threshold),
+    let mut queue = queue;
+    let answer = in_place::count(table, &mut queue, word, scratch, threshold);
+    Replied {
+        answer,
+        queue,
+        word,
     }
 }

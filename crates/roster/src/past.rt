@@ -5,118 +5,75 @@ ghost use Rattle.readings.specs.Answers.{roster_reply};
 ghost use Rattle.roster.specs.Promise.{Past};
 
 use machine::Queue;
-use readings::Replied;
+use readings::RosterAnswer;
 use roster_changes::{add, drop_first, link_past, read_out, replace};
 use roster_list::{atom, find};
 
 pub fn seat_set(
     table: &mut [u16],
-    queue: Queue,
-    word: u16,
+    queue: &mut Queue,
+    word: &mut u16,
     scratch: &mut [u16],
     seat: u16,
     reading: u16,
-) -> Replied
-    ensures { Past (store table.old queue scratch.old) word (set seat reading) (roster_reply result.answer) (store table.new result.queue scratch.new) result.word }
+) -> RosterAnswer
+    ensures { Past (store table.old queue.old scratch.old) word.old (set seat reading) (roster_reply result) (store table.new queue.new scratch.new) word.new }
 {
-    let place = find(table, queue, scratch, word, atom(seat));
-    let next = place.queue;
-    let at = place.at;
-    if at == 0 {
-        return add(table, next, word, scratch, seat, reading);
-    }
-    let changed = replace(table, next, scratch, at, reading);
-    let after = changed.queue;
-    Replied {
-        answer: Ok(Some(0)),
-        queue: after,
-        word,
+    match find(table, queue, scratch, *word, atom(seat)) {
+        None => add(table, queue, word, scratch, seat, reading),
+        Some(place) => {
+            replace(table, queue, scratch, place.at, reading);
+            Ok(Some(0))
+        }
     }
 }
 
 pub fn seat_read(
     table: &mut [u16],
-    queue: Queue,
+    queue: &mut Queue,
     word: u16,
     scratch: &mut [u16],
     seat: u16,
-) -> Replied
-    ensures { Past (store table.old queue scratch.old) word (look_up seat) (roster_reply result.answer) (store table.new result.queue scratch.new) result.word }
+) -> RosterAnswer
+    ensures { Past (store table.old queue.old scratch.old) word (look_up seat) (roster_reply result) (store table.new queue.new scratch.new) word }
 {
-    let place = find(table, queue, scratch, word, atom(seat));
-    let next = place.queue;
-    let at = place.at;
-    if at == 0 {
-        return Replied {
-            answer: Ok(None),
-            queue: next,
-            word,
-        };
-    }
-    let read = read_out(table, next, scratch, at);
-    let after = read.queue;
-    let reading = read.word;
-    Replied {
-        answer: Ok(Some(reading)),
-        queue: after,
-        word,
+    match find(table, queue, scratch, word, atom(seat)) {
+        None => Ok(None),
+        Some(place) => Ok(Some(read_out(table, queue, scratch, place.at))),
     }
 }
 
 pub fn seat_removed(
     table: &mut [u16],
-    queue: Queue,
-    word: u16,
+    queue: &mut Queue,
+    word: &mut u16,
     scratch: &mut [u16],
     seat: u16,
-) -> Replied
-    ensures { Past (store table.old queue scratch.old) word (remove seat) (roster_reply result.answer) (store table.new result.queue scratch.new) result.word }
+) -> RosterAnswer
+    ensures { Past (store table.old queue.old scratch.old) word.old (remove seat) (roster_reply result) (store table.new queue.new scratch.new) word.new }
 {
-    let place = find(table, queue, scratch, word, atom(seat));
-    let next = place.queue;
-    let at = place.at;
-    let before = place.before;
-    if at == 0 {
-        return Replied {
-            answer: Ok(None),
-            queue: next,
-            word,
-        };
-    }
-    if before == 0 {
-        let dropped = drop_first(table, next, word, scratch, at);
-        let after = dropped.queue;
-        let first = dropped.word;
-        return Replied {
-            answer: Ok(Some(0)),
-            queue: after,
-            word: first,
-        };
-    }
-    let linked = link_past(table, next, word, scratch, at, before - 1);
-    let after = linked.queue;
-    Replied {
-        answer: Ok(Some(0)),
-        queue: after,
-        word,
+    match find(table, queue, scratch, *word, atom(seat)) {
+        None => Ok(None),
+        Some(place) => {
+            if place.before == 0 {
+                *word = drop_first(table, queue, *word, scratch, place.at);
+            } else {
+                link_past(table, queue, *word, scratch, place.at, place.before - 1);
+            }
+            Ok(Some(0))
+        }
     }
 }
 
 pub fn seats_counted(
     table: &mut [u16],
-    queue: Queue,
+    queue: &mut Queue,
     word: u16,
     scratch: &mut [u16],
     threshold: u16,
-) -> Replied
-    ensures { Past (store table.old queue scratch.old) word (count threshold) (roster_reply result.answer) (store table.new result.queue scratch.new) result.word }
+) -> RosterAnswer
+    ensures { Past (store table.old queue.old scratch.old) word (count threshold) (roster_reply result) (store table.new queue.new scratch.new) word }
 {
-    let tallied = roster_list::count(table, queue, scratch, word, threshold);
-    let after = tallied.queue;
-    let number = tallied.count;
-    Replied {
-        answer: Ok(Some(number)),
-        queue: after,
-        word,
-    }
+    let number = roster_list::count(table, queue, scratch, word, threshold);
+    Ok(Some(number))
 }

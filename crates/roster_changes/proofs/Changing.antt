@@ -16,6 +16,7 @@ use Rattle.resting.specs.Settling.{Settling}
 use Rattle.resting.proofs.Rows.{Storable, nil_storable, cell_storable, atom_storable, car_settled, cdr_settled, up_settled, down_settled, set_right_settled}
 use Rattle.resting.proofs.Runs.{runs_then, runs_settled}
 use Rattle.readings.specs.Calls.{seats, most_value}
+use Rattle.roster_list.specs.declared.walk.Part.{Part}
 use Rattle.roster_list.specs.Nodes.{Node, atom_of, cells_of, NodeAt, Leads}
 use Rattle.roster_list.specs.Walks.{Looks, Passes}
 use Rattle.roster_list.proofs.Held.{most_cells_lem, after_same, after_swap, atom_joins}
@@ -35,7 +36,7 @@ word_storable c f w [] m h = rw h (nil_storable c)
 word_storable c f w (n ∷ ns) m h = cell_storable c w m (node_cell c f w n h.0)
 
 -- the reading, and the hold released
-pub reads_out : {t : List ℕ} {q : Queue} {s t₁ : List ℕ} {q₁ : Queue} {s₁ t₂ : List ℕ} {q₂ : Queue} {s₂ : List ℕ} {at w v x : ℕ} → Looks t q s at true t₁ q₁ s₁ w
+pub reads_out : {t : List ℕ} {q : Queue} {s t₁ : List ℕ} {q₁ : Queue} {s₁ t₂ : List ℕ} {q₂ : Queue} {s₂ : List ℕ} {at w v x : ℕ} → Looks t q s at Part.Reading t₁ q₁ s₁ w
     → v ≡ w - first_atom → Settling t₁ q₁ s₁ (down at 1) t₂ q₂ s₂ x → ReadsOut t q s at t₂ q₂ s₂ v
 reads_out {at = at} l e g = record {
   runs = runs_then l.runs (runs_settled g);

@@ -5,141 +5,109 @@ ghost use Rattle.readings.specs.Answers.{roster_reply};
 ghost use Rattle.roster_changes.specs.Changes.{ReadsOut, Replaces, Adds, Links, DropsFirst, Relinks, LinksPast};
 
 use machine::{Queue, Refusal, RowCall};
-use readings::Replied;
-use roster_list::{Settled, atom, entry_word, pass, settle, value_of};
+use readings::RosterAnswer;
+use roster_list::{Part, atom, entry_word, pass, settle, value_of};
 
 // The reading there.
-pub fn read_out(table: &mut [u16], queue: Queue, scratch: &mut [u16], at: u16) -> Settled
-    ensures { ReadsOut table.old queue scratch.old at table.new result.queue scratch.new result.word }
+pub fn read_out(table: &mut [u16], queue: &mut Queue, scratch: &mut [u16], at: u16) -> u16
+    ensures { ReadsOut table.old queue.old scratch.old at table.new queue.new scratch.new result }
 {
-    let seen = entry_word(table, queue, scratch, at, true);
-    let next = seen.queue;
-    let value = value_of(seen.word);
-    let released = settle(table, next, scratch, RowCall::Down(at, 1));
-    let after = released.queue;
-    Settled {
-        queue: after,
-        word: value,
-    }
+    let reading = entry_word(table, queue, scratch, at, Part::Reading);
+    settle(table, queue, scratch, RowCall::Down(at, 1));
+    value_of(reading)
 }
 
 // Another reading there.
-pub fn replace(
-    table: &mut [u16],
-    queue: Queue,
-    scratch: &mut [u16],
-    at: u16,
-    reading: u16,
-) -> Settled
-    ensures { Replaces table.old queue scratch.old at reading table.new result.queue scratch.new }
+pub fn replace(table: &mut [u16], queue: &mut Queue, scratch: &mut [u16], at: u16, reading: u16)
+    ensures { Replaces table.old queue.old scratch.old at reading table.new queue.new scratch.new }
 {
-    let opened = settle(table, queue, scratch, RowCall::Car(at));
-    let held = opened.queue;
-    let pair = opened.word;
-    let put = settle(table, held, scratch, RowCall::SetRight(pair, atom(reading)));
-    let next = put.queue;
-    settle(table, next, scratch, RowCall::Down(pair, 1))
+    let entry = settle(table, queue, scratch, RowCall::Car(at));
+    settle(
+        table,
+        queue,
+        scratch,
+        RowCall::SetRight(entry, atom(reading)),
+    );
+    settle(table, queue, scratch, RowCall::Down(entry, 1));
 }
 
 // The entry's cell linked in front of the list; where no cell is free for that, it is given back.
-fn link(table: &mut [u16], queue: Queue, word: u16, scratch: &mut [u16], pair: u16) -> Replied
-    ensures { Links table.old queue scratch.old word pair (roster_reply result.answer) table.new result.queue scratch.new result.word }
+fn link(
+    table: &mut [u16],
+    queue: &mut Queue,
+    word: &mut u16,
+    scratch: &mut [u16],
+    pair: u16,
+) -> RosterAnswer
+    ensures { Links table.old queue.old scratch.old word.old pair (roster_reply result) table.new queue.new scratch.new word.new }
 {
-    let made = settle(table, queue, scratch, RowCall::Cons(pair, word));
-    let next = made.queue;
-    let first = made.word;
+    let first = settle(table, queue, scratch, RowCall::Cons(pair, *word));
     if first == 0 {
-        let released = settle(table, next, scratch, RowCall::Down(pair, 1));
-        let after = released.queue;
-        return Replied {
-            answer: Err(Refusal::NoFreeCell),
-            queue: after,
-            word,
-        };
+        settle(table, queue, scratch, RowCall::Down(pair, 1));
+        return Err(Refusal::NoFreeCell);
     }
-    Replied {
-        answer: Ok(Some(0)),
-        queue: next,
-        word: first,
-    }
+    *word = first;
+    Ok(Some(0))
 }
 
 // A new seat in front.
 pub fn add(
     table: &mut [u16],
-    queue: Queue,
-    word: u16,
+    queue: &mut Queue,
+    word: &mut u16,
     scratch: &mut [u16],
     seat: u16,
     reading: u16,
-) -> Replied
-    ensures { Adds table.old queue scratch.old word seat reading (roster_reply result.answer) table.new result.queue scratch.new result.word }
+) -> RosterAnswer
+    ensures { Adds table.old queue.old scratch.old word.old seat reading (roster_reply result) table.new queue.new scratch.new word.new }
 {
-    let made = settle(
+    let pair = settle(
         table,
         queue,
         scratch,
         RowCall::Cons(atom(seat), atom(reading)),
     );
-    let next = made.queue;
-    let pair = made.word;
     if pair == 0 {
-        return Replied {
-            answer: Err(Refusal::NoFreeCell),
-            queue: next,
-            word,
-        };
+        return Err(Refusal::NoFreeCell);
     }
-    link(table, next, word, scratch, pair)
+    link(table, queue, word, scratch, pair)
 }
 
 // The first cell of the list let go: the word afterwards is the next.
 pub fn drop_first(
     table: &mut [u16],
-    queue: Queue,
+    queue: &mut Queue,
     word: u16,
     scratch: &mut [u16],
     at: u16,
-) -> Settled
-    ensures { DropsFirst table.old queue scratch.old word at table.new result.queue scratch.new result.word }
+) -> u16
+    ensures { DropsFirst table.old queue.old scratch.old word at table.new queue.new scratch.new result }
 {
-    let moved = settle(table, queue, scratch, RowCall::Cdr(at));
-    let held = moved.queue;
-    let next = moved.word;
-    let released = settle(table, held, scratch, RowCall::Down(word, 1));
-    let after = released.queue;
-    Settled {
-        queue: after,
-        word: next,
-    }
+    let next = settle(table, queue, scratch, RowCall::Cdr(at));
+    settle(table, queue, scratch, RowCall::Down(word, 1));
+    next
 }
 
-fn relink(table: &mut [u16], queue: Queue, scratch: &mut [u16], at: u16, next: u16) -> Settled
-    ensures { Relinks table.old queue scratch.old at next table.new result.queue scratch.new }
+fn relink(table: &mut [u16], queue: &mut Queue, scratch: &mut [u16], before: u16, next: u16)
+    ensures { Relinks table.old queue.old scratch.old before next table.new queue.new scratch.new }
 {
-    let put = settle(table, queue, scratch, RowCall::SetRight(at, next));
-    let held = put.queue;
-    settle(table, held, scratch, RowCall::Down(at, 1))
+    settle(table, queue, scratch, RowCall::SetRight(before, next));
+    settle(table, queue, scratch, RowCall::Down(before, 1));
 }
 
 // A later cell linked past: k cells of the list come before the one that links to it.
 pub fn link_past(
     table: &mut [u16],
-    queue: Queue,
+    queue: &mut Queue,
     word: u16,
     scratch: &mut [u16],
     at: u16,
     k: u16,
-) -> Settled
-    ensures { LinksPast table.old queue scratch.old word at k table.new result.queue scratch.new }
+)
+    ensures { LinksPast table.old queue.old scratch.old word at k table.new queue.new scratch.new }
 {
-    let moved = settle(table, queue, scratch, RowCall::Cdr(at));
-    let held = moved.queue;
-    let next = moved.word;
-    let raised = settle(table, held, scratch, RowCall::Up(word, 1));
-    let both = raised.queue;
-    let passed = pass(table, both, scratch, word, k);
-    let there = passed.queue;
-    let before = passed.word;
-    relink(table, there, scratch, before, next)
+    let next = settle(table, queue, scratch, RowCall::Cdr(at));
+    settle(table, queue, scratch, RowCall::Up(word, 1));
+    let before = pass(table, queue, scratch, word, k);
+    relink(table, queue, scratch, before, next);
 }

@@ -9,10 +9,9 @@ use native.Mathlib.Omega.{arith}
 use Rattle.machine.specs.declared.Queue.{Queue}
 use Rattle.machine.specs.declared.Refusal.{Refusal}
 use Rattle.machine.specs.declared.Step.{Step}
-use Rattle.machine.specs.Answers.{Asked, StepAnswer, step_reply}
-use Rattle.machine.specs.Answers.{refusal_number}
+use Rattle.machine.specs.Answers.{Asked, StepAnswer, step_reply, refusal_number}
 use Rattle.machine.specs.Queue.{empty_queue}
-use Rattle.machine.specs.Calls.{row, step, car, Reply, value, refused, idle, applied, store}
+use Rattle.machine.specs.Calls.{row, step, car, Reply, value, refused, idle, store}
 use Rattle.machine.specs.Questions.{first_no, in_range, scratch_enough}
 use Rattle.machine.specs.Promise.{Promise}
 use Rattle.machine.proofs.Range.{tested}

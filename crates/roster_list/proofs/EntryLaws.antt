@@ -25,9 +25,10 @@ module _ (seat : ℕ) where
   unfolding looked_up
   looked_here n ys e = rw (eq-eqb n.entry.seat seat e) refl
 
-  pub looked_nowhere : looked_up (entries_of []) seat ≡ missing
+  pub looked_nowhere : (ns : List Node) → NoneOf (atom_of seat) ns → looked_up (entries_of ns) seat ≡ missing
   unfolding looked_up
-  looked_nowhere = refl
+  looked_nowhere [] h = refl
+  looked_nowhere (n ∷ ns) h = rw (ne_eqb n.entry.seat seat (λ e. h.0 (ap atom_of e))) (looked_nowhere ns h.1)
 
   pub replaced_at : (xs : List Node) (n : Node) (ys : List Node) (r : ℕ) → NoneOf (atom_of seat) xs → n.entry.seat ≡ seat
       → replaced (entries_of (xs ++ (n ∷ ys))) seat r ≡ entries_of (xs ++ (changed n r ∷ ys))

@@ -50,6 +50,3 @@ module _ {c : ℕ} {s₀ hs : List ℕ} {f : ℕ → Fields} {t : List ℕ} {q :
   -- nil
   pub nil_drops : After c s₀ (0 ∷ hs) f t q s → After c s₀ hs f t q s
   nil_drops a = other_drops (λ i l d. omega arith) a
-
-  pub nil_joins : After c s₀ hs f t q s → After c s₀ (0 ∷ hs) f t q s
-  nil_joins a = other_joins (λ i l d. omega arith) a

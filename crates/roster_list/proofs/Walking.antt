@@ -1,7 +1,8 @@
 -- Walks along a list of nodes: one law for a turn, whatever is known of the nodes passed.
+use Rattle.std.specs.Prelude.{Option, Some, None}
 use mathlib.Core.Path.{◌≡◌, refl, sym, ap, ◌∙◌}
 use mathlib.Core.Logic.{◌≢◌}
-use mathlib.Core.Bool.{true, false, cond}
+use mathlib.Core.Bool.{cond}
 use mathlib.Core.List.{List, [], ◌∷◌, ◌++◌, append_assoc, append-nil}
 use Prim.Native.Nat.{ℕ, ◌+◌, ◌≤◌, ◌<◌}
 use native.Mathlib.Omega.{arith}
@@ -18,9 +19,10 @@ use Rattle.resting.proofs.Rows.{cdr_settled, up_settled, audit_after}
 use Rattle.resting.proofs.Runs.{runs_none, runs_then, runs_settled, runs_audited}
 use Rattle.readings.specs.Readings.{counted}
 use Rattle.readings.specs.Calls.{seats}
+use Rattle.roster_list.specs.declared.walk.Place.{Place}
 use Rattle.roster_list.specs.Nodes.{Node, atom_of, entries_of, NodeAt, Leads}
-use Rattle.roster_list.specs.Walks.{Few, Turns, Weighs, Walked, NoneOf, Ends, Seeks, Finds, Tallies, Counts, Passes}
-use Rattle.roster_list.proofs.Held.{nil_drops, nil_joins}
+use Rattle.roster_list.specs.Walks.{Few, Turns, Weighs, Walked, NoneOf, Sought, Seeks, Finds, Tallies, Counts, Passes}
+use Rattle.roster_list.proofs.Held.{nil_drops}
 use Rattle.roster_list.proofs.Turning.{node_cell}
 
 leads_snoc : (c : ℕ) (f : ℕ → Fields) (w : ℕ) (xs : List Node) (n : Node) (v : ℕ) → Leads c f w xs v → NodeAt c f v n → Leads c f w (xs ++ (n ∷ [])) (f v).right
@@ -105,21 +107,13 @@ walk_begins t q s from p = record {
 -- Searching.
 module _ {t₀ : List ℕ} {q₀ : Queue} {s₁ : List ℕ} {from key : ℕ} {t : List ℕ} {q : Queue} {s : List ℕ} {at i : ℕ} (k : Walking (NoneOf key) ToNil t₀ q₀ s₁ from t q s at i) where
   at_end : (c : ℕ) (s₀ hs : List ℕ) (f : ℕ → Fields) (ns : List Node) (w : Walked (NoneOf key) c s₀ hs f from ns 0 t q s at i) → w.ys ≡ [] → at ≡ 0
-      → (z : Walked (NoneOf key) c s₀ hs f from ns 0 t q s 0 i) × Ends key z.ys
+      → Sought key c s₀ hs f from ns t q s None
   at_end c s₀ hs f ns w e o =
-      let z : Walked (NoneOf key) c s₀ hs f from ns 0 t q s 0 i = record {
-        xs = w.xs;
-        ys = [];
-        parts = w.parts ∙ ap (λ (l : List Node). w.xs ++ l) e;
-        passed = w.passed;
-        known = w.known;
-        to = rw o at w.to;
-        on = refl;
-        after = rw o at w.after;
-      } in (z, tt)
+      let all : ns ≡ w.xs = w.parts ∙ ap (λ (l : List Node). w.xs ++ l) e ∙ append-nil w.xs in
+      (rw all w.known, nil_drops (rw o at w.after))
 
   -- at nil it ends
-  pub seek_nil : at ≡ 0 → Seeks t₀ q₀ s₁ from key t q s 0 i
+  pub seek_nil : at ≡ 0 → Seeks t₀ q₀ s₁ from key t q s None
   seek_nil e = record {
     runs = k.runs;
     shown = λ c s₀ hs f ns few a leads most.
@@ -128,7 +122,7 @@ module _ {t₀ : List ℕ} {q₀ : Queue} {s₁ : List ℕ} {from key : ℕ} {t 
   }
 
   -- and after as many turns as there can be seats
-  pub seek_done : seats ≤ i → Seeks t₀ q₀ s₁ from key t q s 0 i
+  pub seek_done : seats ≤ i → Seeks t₀ q₀ s₁ from key t q s None
   seek_done l = record {
     runs = k.runs;
     shown = λ c s₀ hs f ns few a leads most.
@@ -136,8 +130,8 @@ module _ {t₀ : List ℕ} {q₀ : Queue} {s₁ : List ℕ} {from key : ℕ} {t 
         ahead w (at_end c s₀ hs f ns w) (λ n ys d node on. absurd (all_passed w seats l most n ys d));
   }
 
-  module _ {t' : List ℕ} {q' : Queue} {s' : List ℕ} {at' : ℕ} (some : at ≢ 0) where
-    pub seek_found : Turns t q s at key t' q' s' at' true → Seeks t₀ q₀ s₁ from key t' q' s' at' i
+  module _ {t' : List ℕ} {q' : Queue} {s' : List ℕ} (some : at ≢ 0) where
+    pub seek_found : Turns t q s at key t' q' s' None → Seeks t₀ q₀ s₁ from key t' q' s' (Some (record { at = at; before = i }))
     seek_found g = record {
       runs = runs_then k.runs g.runs;
       shown = λ c s₀ hs f ns few a leads most.
@@ -152,12 +146,12 @@ module _ {t₀ : List ℕ} {q₀ : Queue} {s₁ : List ℕ} {from key : ℕ} {t 
             known = w.known;
             to = w.to;
             on = (node, on);
-            after = z.2;
+            after = z.1;
           } in
-          rw z.1 (v, z.0));
+          (v, z.0));
     }
 
-    pub seek_again : Turns t q s at key t' q' s' at' false → Walking (NoneOf key) ToNil t₀ q₀ s₁ from t' q' s' at' (i + 1)
+    pub seek_again : {at' : ℕ} → Turns t q s at key t' q' s' (Some at') → Walking (NoneOf key) ToNil t₀ q₀ s₁ from t' q' s' at' (i + 1)
     seek_again g = record {
       runs = runs_then k.runs g.runs;
       shown = λ c s₀ hs f ns end few a leads along.
@@ -168,8 +162,8 @@ module _ {t₀ : List ℕ} {q₀ : Queue} {s₁ : List ℕ} {from key : ℕ} {t 
     }
 
 -- From the roster's word: a raise, and a search.
-pub find_from : {t : List ℕ} {q : Queue} {s t₁ : List ℕ} {q₁ : Queue} {s₁ t₂ : List ℕ} {q₂ : Queue} {s₂ : List ℕ} {word key v at before : ℕ} → word ≢ 0
-    → Settling t q s (up word 1) t₁ q₁ s₁ v → Seeks t₁ q₁ s₁ word key t₂ q₂ s₂ at before → Finds t q s word key t₂ q₂ s₂ at before
+pub find_from : {t : List ℕ} {q : Queue} {s t₁ : List ℕ} {q₁ : Queue} {s₁ t₂ : List ℕ} {q₂ : Queue} {s₂ : List ℕ} {word key v : ℕ} {place : Option Place} → word ≢ 0
+    → Settling t q s (up word 1) t₁ q₁ s₁ v → Seeks t₁ q₁ s₁ word key t₂ q₂ s₂ place → Finds t q s word key t₂ q₂ s₂ place
 find_from {word = word} some a g = record {
   runs = runs_then (runs_settled a) g.runs;
   shown = λ c s₀ f ns k leads most. g.shown c s₀ (word ∷ []) f ns (omega arith) (raised_word ns some k leads a) leads most;
@@ -177,13 +171,10 @@ find_from {word = word} some a g = record {
 
 -- An empty roster: there is nothing to find.
 pub find_none : {t : List ℕ} {q : Queue} {s : List ℕ} {r : Reply} {s' : List ℕ} {word key : ℕ} → word ≡ 0 → Promise (store t q s) audit r (store t q s')
-    → Finds t q s word key t q s' 0 0
-find_none {word = word} {key} e p = record {
+    → Finds t q s word key t q s' None
+find_none {word = word} e p = record {
   runs = runs_audited p;
-  shown = λ c s₀ f ns k leads most. empty_list c f ns (rw e at leads) (λ d.
-      let w : Walked (NoneOf key) c s₀ (word ∷ []) f word ns 0 _ _ _ 0 0 =
-      record { xs = []; ys = []; parts = d; passed = refl; known = tt; to = e; on = refl; after = nil_joins (audit_after k p) } in
-      (w, tt));
+  shown = λ c s₀ f ns k leads most. empty_list c f ns (rw e at leads) (λ d. (rw d tt, audit_after k p));
 }
 
 -- Counting.

@@ -2,9 +2,11 @@
 use Rattle.std.specs.Prelude.{◌≡◌, true, cond, List, [], ◌∷◌, map, ℕ, suc, ◌+◌, ◌≤◌, ◌<◌, eqb}
 use Rattle.machine.specs.Range.{occurrences}
 use Rattle.machine.specs.Words.{first_atom}
+use Rattle.machine.specs.Calls.{RowCall, car, cdr}
 use Rattle.soundness.specs.Reliable.{Fields, fields}
 use Rattle.readings.specs.Readings.{Entry}
 use Rattle.readings.specs.Calls.{is_seat}
+use Rattle.roster_list.specs.declared.walk.Part.{Part}
 
 -- a seat's two cells: one of the list, whose left is the entry's cell and whose right is the next; the entry's, with the seat and the reading as atoms
 pub record Node : Type 0 where
@@ -14,6 +16,15 @@ pub record Node : Type 0 where
 
 abbrev pub atom_of : ℕ → ℕ
 atom_of v = first_atom + v
+
+-- the number that a part of an entry is, and the read of the entry's cell that gives its atom
+abbrev pub part_of : Part → Entry → ℕ
+part_of Part.Seat e = e.seat
+part_of Part.Reading e = e.reading
+
+abbrev pub read_of : Part → ℕ → RowCall
+read_of Part.Seat pair = car pair
+read_of Part.Reading pair = cdr pair
 
 abbrev pub entries_of : List Node → List Entry
 entries_of [] = []

@@ -1,5 +1,5 @@
 -- What the walks over the list give: on any store what calls of the store make, and on a list of nodes what lies there.
-use Rattle.std.specs.Prelude.{◌≡◌, ◌≢◌, Bool, true, false, cond, List, [], ◌∷◌, ◌++◌, ℕ, ◌+◌, ◌≤◌, leb, length}
+use Rattle.std.specs.Prelude.{◌≡◌, ◌≢◌, cond, List, [], ◌∷◌, ◌++◌, ℕ, Option, Some, None, ◌+◌, ◌≤◌, leb, length}
 use Rattle.machine.specs.declared.Queue.{Queue}
 use Rattle.machine.specs.Words.{ceiling}
 use Rattle.machine.specs.Calls.{store}
@@ -8,27 +8,29 @@ use Rattle.resting.specs.Rests.{At, After}
 use Rattle.resting.specs.Runs.{Runs}
 use Rattle.readings.specs.Readings.{counted}
 use Rattle.readings.specs.Calls.{seats}
-use Rattle.roster_list.specs.Nodes.{Node, atom_of, entries_of, NodeAt, Leads}
+use Rattle.roster_list.specs.declared.walk.Part.{Part}
+use Rattle.roster_list.specs.declared.walk.Place.{Place}
+use Rattle.roster_list.specs.Nodes.{Node, atom_of, part_of, entries_of, NodeAt, Leads}
 
 -- so few words are held that a walk may hold some more
 abbrev pub Few : List ℕ → Type 0
 Few hs = length hs + 3 ≤ ceiling
 
 -- The seat or the reading of the entry at a cell of the list, of which a hold is kept.
-pub record Looks (t : List ℕ) (q : Queue) (s : List ℕ) (at : ℕ) (right : Bool) (t' : List ℕ) (q' : Queue) (s' : List ℕ) (w : ℕ) : Type 0 where
+pub record Looks (t : List ℕ) (q : Queue) (s : List ℕ) (at : ℕ) (part : Part) (t' : List ℕ) (q' : Queue) (s' : List ℕ) (w : ℕ) : Type 0 where
   pub runs : Runs (store t q s) (store t' q' s')
   pub shown : (c : ℕ) (s₀ hs : List ℕ) (f : ℕ → Fields) (n : Node) → Few hs → NodeAt c f at n → At c s₀ (at ∷ hs) f t q s
-      → (w ≡ cond right (atom_of n.entry.reading) (atom_of n.entry.seat)) × After c s₀ (at ∷ hs) f t' q' s'
+      → (w ≡ atom_of (part_of part n.entry)) × After c s₀ (at ∷ hs) f t' q' s'
 
--- One turn of a search: where the seat's atom is the key the walk stays, else it goes on to the next cell.
-abbrev pub Turn : ℕ → List ℕ → List ℕ → (ℕ → Fields) → Node → ℕ → ℕ → List ℕ → Queue → List ℕ → ℕ → Bool → Type 0
-Turn c s₀ hs f n key at t' q' s' at' true = (atom_of n.entry.seat ≡ key) × (at' ≡ at) × After c s₀ (at ∷ hs) f t' q' s'
-Turn c s₀ hs f n key at t' q' s' at' false = (atom_of n.entry.seat ≢ key) × (at' ≡ (f at).right) × After c s₀ (at' ∷ hs) f t' q' s'
+-- One turn of a search: where the seat's atom is the key there is no next cell and the walk stays, else it goes on to the next cell.
+abbrev pub Turn : ℕ → List ℕ → List ℕ → (ℕ → Fields) → Node → ℕ → ℕ → List ℕ → Queue → List ℕ → Option ℕ → Type 0
+Turn c s₀ hs f n key at t' q' s' None = (atom_of n.entry.seat ≡ key) × After c s₀ (at ∷ hs) f t' q' s'
+Turn c s₀ hs f n key at t' q' s' (Some at') = (atom_of n.entry.seat ≢ key) × (at' ≡ (f at).right) × After c s₀ (at' ∷ hs) f t' q' s'
 
-pub record Turns (t : List ℕ) (q : Queue) (s : List ℕ) (at key : ℕ) (t' : List ℕ) (q' : Queue) (s' : List ℕ) (at' : ℕ) (found : Bool) : Type 0 where
+pub record Turns (t : List ℕ) (q : Queue) (s : List ℕ) (at key : ℕ) (t' : List ℕ) (q' : Queue) (s' : List ℕ) (next : Option ℕ) : Type 0 where
   pub runs : Runs (store t q s) (store t' q' s')
   pub shown : (c : ℕ) (s₀ hs : List ℕ) (f : ℕ → Fields) (n : Node) → Few hs → NodeAt c f at n → At c s₀ (at ∷ hs) f t q s
-      → Turn c s₀ hs f n key at t' q' s' at' found
+      → Turn c s₀ hs f n key at t' q' s' next
 
 -- One turn of a count: whether the reading is at or above the threshold, as 1 or 0, and the next cell.
 pub record Weighs (t : List ℕ) (q : Queue) (s : List ℕ) (at threshold : ℕ) (t' : List ℕ) (q' : Queue) (s' : List ℕ) (at' weight : ℕ) : Type 0 where
@@ -53,22 +55,26 @@ abbrev pub NoneOf : ℕ → List Node → Type 0
 NoneOf key [] = Unit {0}
 NoneOf key (n ∷ ns) = (atom_of n.entry.seat ≢ key) × NoneOf key ns
 
--- the first of these nodes, if there is one, has it
-abbrev pub Ends : ℕ → List Node → Type 0
-Ends key [] = Unit {0}
-Ends key (n ∷ ns) = atom_of n.entry.seat ≡ key
+-- the first of these nodes has it
+abbrev pub Begins : ℕ → List Node → Type 0
+Begins key [] = ⊥
+Begins key (n ∷ ns) = atom_of n.entry.seat ≡ key
 
--- A search ends at the cell of the seat whose atom is key, or at nil.
-pub record Seeks (t : List ℕ) (q : Queue) (s : List ℕ) (from key : ℕ) (t' : List ℕ) (q' : Queue) (s' : List ℕ) (at before : ℕ) : Type 0 where
+-- A search ends at the cell of the seat whose atom is key, which is held, or at no place, where no node has that seat.
+abbrev pub Sought : ℕ → ℕ → List ℕ → List ℕ → (ℕ → Fields) → ℕ → List Node → List ℕ → Queue → List ℕ → Option Place → Type 0
+Sought key c s₀ hs f from ns t' q' s' None = NoneOf key ns × After c s₀ hs f t' q' s'
+Sought key c s₀ hs f from ns t' q' s' (Some p) = (w : Walked (NoneOf key) c s₀ hs f from ns 0 t' q' s' p.at p.before) × Begins key w.ys
+
+pub record Seeks (t : List ℕ) (q : Queue) (s : List ℕ) (from key : ℕ) (t' : List ℕ) (q' : Queue) (s' : List ℕ) (place : Option Place) : Type 0 where
   pub runs : Runs (store t q s) (store t' q' s')
   pub shown : (c : ℕ) (s₀ hs : List ℕ) (f : ℕ → Fields) (ns : List Node) → Few hs → After c s₀ (from ∷ hs) f t q s → Leads c f from ns 0 → length ns ≤ seats
-      → (w : Walked (NoneOf key) c s₀ hs f from ns 0 t' q' s' at before) × Ends key w.ys
+      → Sought key c s₀ hs f from ns t' q' s' place
 
 -- A search from the roster's word, whose hold is kept.
-pub record Finds (t : List ℕ) (q : Queue) (s : List ℕ) (word key : ℕ) (t' : List ℕ) (q' : Queue) (s' : List ℕ) (at before : ℕ) : Type 0 where
+pub record Finds (t : List ℕ) (q : Queue) (s : List ℕ) (word key : ℕ) (t' : List ℕ) (q' : Queue) (s' : List ℕ) (place : Option Place) : Type 0 where
   pub runs : Runs (store t q s) (store t' q' s')
   pub shown : (c : ℕ) (s₀ : List ℕ) (f : ℕ → Fields) (ns : List Node) → At c s₀ (word ∷ []) f t q s → Leads c f word ns 0 → length ns ≤ seats
-      → (w : Walked (NoneOf key) c s₀ (word ∷ []) f word ns 0 t' q' s' at before) × Ends key w.ys
+      → Sought key c s₀ (word ∷ []) f word ns t' q' s' place
 
 -- A count goes along all nodes.
 pub record Tallies (t : List ℕ) (q : Queue) (s : List ℕ) (from threshold : ℕ) (t' : List ℕ) (q' : Queue) (s' : List ℕ) (count : ℕ) : Type 0 where

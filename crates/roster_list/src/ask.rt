@@ -16,10 +16,10 @@ fn scratch_asked(table: &mut [u16], scratch: &mut [u16]) -> Asked
 }
 
 // Questions 1 and 2, as a step is asked them. A read of nil is asked 1 and 4 alone.
-pub fn store_asked(table: &mut [u16], queue: Queue, scratch: &mut [u16]) -> Asked
-    ensures { Asks (ask_store (store table.old queue scratch.old)) table.old scratch.old result table.new scratch.new }
+pub fn store_asked(table: &mut [u16], queue: &Queue, scratch: &mut [u16]) -> Asked
+    ensures { Asks (ask_store (store table.old queue.now scratch.old)) table.old scratch.old result table.new scratch.new }
 {
-    let reply = store::car(table, queue, 0);
+    let reply = store::car(table, *queue, 0);
     let read = reply.answer;
     read?;
     scratch_asked(table, scratch)

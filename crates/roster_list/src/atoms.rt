@@ -20,8 +20,5 @@ pub fn atom(value: u16) -> u16
 pub fn value_of(word: u16) -> u16
     ensures { result ≡ word - first_atom }
 {
-    if word < FIRST_ATOM {
-        return 0;
-    }
-    word - FIRST_ATOM
+    word.saturating_sub(FIRST_ATOM)
 }

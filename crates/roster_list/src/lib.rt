@@ -10,6 +10,6 @@ mod walk;
 
 pub use ask::store_asked;
 pub use atoms::{atom, value_of};
-pub use settling::{Settled, settle};
-pub use tally::{Tallied, count};
-pub use walk::{Place, entry_word, find, pass};
+pub use settling::settle;
+pub use tally::count;
+pub use walk::{Part, Place, entry_word, find, pass};

@@ -1,150 +1,111 @@
 // Walks over the list. Each is at one cell, of which it has a hold beside the roster's own.
-ghost use Rattle.std.specs.Prelude.{◌≡◌, cond};
+ghost use Rattle.std.specs.Prelude.{◌≡◌};
 ghost use Rattle.machine.specs.Answers.{call_of};
-ghost use Rattle.machine.specs.Calls.{car, cdr};
+ghost use Rattle.roster_list.specs.Nodes.{read_of};
 ghost use Rattle.roster_list.specs.Walks.{Looks, Turns, Seeks, Finds, Passes};
 
-use crate::settling::{Settled, settle};
+use crate::settling::settle;
 use machine::{Queue, RowCall};
 use readings::SEATS;
 
-// A cell of the list that is held, or nil, and how many cells of the list come before it.
+// What an entry has: its cell's left is the seat's atom, the right the reading's.
+#[derive(Clone, Copy)]
+pub enum Part {
+    Seat,
+    Reading,
+}
+
+// A cell of the list that is held, and how many cells of the list come before it.
 #[derive(Clone, Copy)]
 pub struct Place {
-    pub queue: Queue,
     pub at: u16,
     pub before: u16,
 }
 
-fn field_of(pair: u16, right: bool) -> RowCall
-    ensures { call_of result ≡ cond right (cdr pair) (car pair) }
+fn read_of(pair: u16, part: Part) -> RowCall
+    ensures { call_of result ≡ read_of part pair }
 {
-    if right {
-        return RowCall::Cdr(pair);
+    match part {
+        Part::Seat => RowCall::Car(pair),
+        Part::Reading => RowCall::Cdr(pair),
     }
-    RowCall::Car(pair)
 }
 
 // The seat or the reading of the entry at a cell of the list, whose hold is kept.
 pub fn entry_word(
     table: &mut [u16],
-    queue: Queue,
+    queue: &mut Queue,
     scratch: &mut [u16],
     at: u16,
-    right: bool,
-) -> Settled
-    ensures { Looks table.old queue scratch.old at right table.new result.queue scratch.new result.word }
+    part: Part,
+) -> u16
+    ensures { Looks table.old queue.old scratch.old at part table.new queue.new scratch.new result }
 {
-    let kept = settle(table, queue, scratch, RowCall::Up(at, 1));
-    let held = kept.queue;
-    let opened = settle(table, held, scratch, RowCall::Car(at));
-    let next = opened.queue;
-    let pair = opened.word;
-    settle(table, next, scratch, field_of(pair, right))
+    settle(table, queue, scratch, RowCall::Up(at, 1));
+    let pair = settle(table, queue, scratch, RowCall::Car(at));
+    settle(table, queue, scratch, read_of(pair, part))
 }
 
-#[derive(Clone, Copy)]
-struct Turned {
-    queue: Queue,
-    at: u16,
-    found: bool,
-}
-
-// One turn: the same cell where its seat is the one looked for, else the next.
-fn turn(table: &mut [u16], queue: Queue, scratch: &mut [u16], at: u16, key: u16) -> Turned
-    ensures { Turns table.old queue scratch.old at key table.new result.queue scratch.new result.at result.found }
+// One turn: nothing where the cell's seat is the one looked for, and the cell stays held; else the next cell.
+fn turn(table: &mut [u16], queue: &mut Queue, scratch: &mut [u16], at: u16, key: u16) -> Option<u16>
+    ensures { Turns table.old queue.old scratch.old at key table.new queue.new scratch.new result }
 {
-    let seen = entry_word(table, queue, scratch, at, false);
-    let next = seen.queue;
-    let seat = seen.word;
+    let seat = entry_word(table, queue, scratch, at, Part::Seat);
     if seat == key {
-        return Turned {
-            queue: next,
-            at,
-            found: true,
-        };
+        return None;
     }
-    let moved = settle(table, next, scratch, RowCall::Cdr(at));
-    let after = moved.queue;
-    let rest = moved.word;
-    Turned {
-        queue: after,
-        at: rest,
-        found: false,
-    }
+    let next = settle(table, queue, scratch, RowCall::Cdr(at));
+    Some(next)
 }
 
-// From a cell of the list, which is held, on to the seat whose atom is key: its cell, held, or nil where it is absent.
-fn seek(table: &mut [u16], queue: Queue, scratch: &mut [u16], from: u16, key: u16) -> Place
-    ensures { Seeks table.old queue scratch.old from key table.new result.queue scratch.new result.at result.before }
+// From a cell of the list, which is held, on to the seat whose atom is key; nothing where it is absent.
+fn seek(
+    table: &mut [u16],
+    queue: &mut Queue,
+    scratch: &mut [u16],
+    from: u16,
+    key: u16,
+) -> Option<Place>
+    ensures { Seeks table.old queue.old scratch.old from key table.new queue.new scratch.new result }
 {
-    let mut present = queue;
     let mut at = from;
-    let mut i = 0;
-    while i < SEATS {
+    for before in 0..SEATS {
         if at == 0 {
-            return Place {
-                queue: present,
-                at: 0,
-                before: i,
-            };
+            return None;
         }
-        let before = present;
-        let turned = turn(table, before, scratch, at, key);
-        let next = turned.queue;
-        present = next;
-        at = turned.at;
-        let found = turned.found;
-        if found {
-            return Place {
-                queue: present,
-                at,
-                before: i,
-            };
+        match turn(table, queue, scratch, at, key) {
+            None => return Some(Place { at, before }),
+            Some(next) => at = next,
         }
-        i += 1;
     }
-    Place {
-        queue: present,
-        at: 0,
-        before: i,
-    }
+    None
 }
 
 // From the roster's word, whose hold is kept. Of an empty roster no row call is made; the audit clears the scratch.
-pub fn find(table: &mut [u16], queue: Queue, scratch: &mut [u16], word: u16, key: u16) -> Place
-    ensures { Finds table.old queue scratch.old word key table.new result.queue scratch.new result.at result.before }
+pub fn find(
+    table: &mut [u16],
+    queue: &mut Queue,
+    scratch: &mut [u16],
+    word: u16,
+    key: u16,
+) -> Option<Place>
+    ensures { Finds table.old queue.old scratch.old word key table.new queue.new scratch.new result }
 {
     if word == 0 {
-        let _ = store::audit(table, queue, scratch);
-        return Place {
-            queue,
-            at: 0,
-            before: 0,
-        };
+        let _ = store::audit(table, *queue, scratch);
+        return None;
     }
-    let kept = settle(table, queue, scratch, RowCall::Up(word, 1));
-    let held = kept.queue;
-    seek(table, held, scratch, word, key)
+    settle(table, queue, scratch, RowCall::Up(word, 1));
+    seek(table, queue, scratch, word, key)
 }
 
 // Past k cells of the list, from one that is held.
-pub fn pass(table: &mut [u16], queue: Queue, scratch: &mut [u16], from: u16, k: u16) -> Settled
-    ensures { Passes table.old queue scratch.old from k table.new result.queue scratch.new result.word }
+pub fn pass(table: &mut [u16], queue: &mut Queue, scratch: &mut [u16], from: u16, k: u16) -> u16
+    ensures { Passes table.old queue.old scratch.old from k table.new queue.new scratch.new result }
 {
-    let mut present = queue;
     let mut at = from;
-    let mut i = 0;
-    while i < k {
-        let before = present;
-        let moved = settle(table, before, scratch, RowCall::Cdr(at));
-        let next = moved.queue;
-        present = next;
-        at = moved.word;
-        i += 1;
+    for _ in 0..k {
+        at = settle(table, queue, scratch, RowCall::Cdr(at));
     }
-    Settled {
-        queue: present,
-        word: at,
-    }
+    at
 }

@@ -3,7 +3,7 @@ use Rattle.roster_changes.proofs.Changing.{replaces}
 use Rattle.roster_changes.proofs.replace.Goals as goal
 
 pub shape_of-table : goal.shape_of-table
-shape_of-table c = c.settle.auto.table ∙ c.settle-put.auto.table ∙ c.settle-opened.auto.table
+shape_of-table c = c.settle-2.auto.table ∙ c.settle.auto.table ∙ c.settle-entry.auto.table
 
 pub returns : goal.returns
-returns c = replaces c.settle-opened.ensures c.atom.ensures c.settle-put.ensures c.settle.ensures
+returns c = replaces c.settle-entry.ensures c.atom.ensures c.settle.ensures c.settle-2.ensures

@@ -1,8 +1,8 @@
 use Rattle.roster.proofs.PastLaws.{read_absent, read_found}
 use Rattle.roster.proofs.past.seat_read.Goals as goal
 
-pub returns-then-at-eq0 : goal.returns-then-at-eq0
-returns-then-at-eq0 c = read_absent c.atom.ensures c.find-place.ensures c.if-at-eq0.true
+pub returns-in-None : goal.returns-in-None
+returns-in-None c = read_absent c.atom.ensures (rw c.in-None.is at c.find.ensures)
 
-pub returns : goal.returns
-returns c = read_found c.atom.ensures c.find-place.ensures c.if-at-eq0.false c.read_out-read.ensures
+pub returns-in-Some : goal.returns-in-Some
+returns-in-Some c = read_found c.atom.ensures (rw c.in-Some.is at c.find.ensures) c.read_out.ensures

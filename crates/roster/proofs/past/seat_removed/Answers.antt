@@ -1,11 +1,11 @@
 use Rattle.roster.proofs.PastLaws.{removed_absent, removed_first, removed_later}
 use Rattle.roster.proofs.past.seat_removed.Goals as goal
 
-pub returns-then-at-eq0 : goal.returns-then-at-eq0
-returns-then-at-eq0 c = removed_absent c.atom.ensures c.find-place.ensures c.if-at-eq0.true
+pub returns-in-None : goal.returns-in-None
+returns-in-None c = removed_absent c.atom.ensures (rw c.in-None.is at c.find.ensures)
 
-pub returns-then-before-eq0 : goal.returns-then-before-eq0
-returns-then-before-eq0 c = removed_first c.atom.ensures c.find-place.ensures c.if-at-eq0.false c.if-before-eq0.true c.drop_first-dropped.ensures
+pub returns-then-place-eq0 : goal.returns-then-place-eq0
+returns-then-place-eq0 c = removed_first c.atom.ensures (rw c.in-Some.is at c.find.ensures) c.if-place-eq0.true c.drop_first.ensures
 
-pub returns : goal.returns
-returns c = removed_later c.atom.ensures c.find-place.ensures c.if-at-eq0.false c.if-before-eq0.false c.link_past-linked.ensures
+pub returns-else-place-eq0 : goal.returns-else-place-eq0
+returns-else-place-eq0 c = removed_later c.atom.ensures (rw c.in-Some.is at c.find.ensures) c.if-place-eq0.false c.link_past.ensures

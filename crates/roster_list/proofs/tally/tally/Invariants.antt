@@ -1,10 +1,6 @@
-use Prim.Native.Nat.{◌-◌, ◌≤◌}
-use Rattle.readings.specs.Calls.{seats}
+use Prim.Native.Nat.{◌≤◌}
 use Rattle.roster_list.proofs.Walking.{Walking, ToNil, CountIs}
 use Rattle.roster_list.proofs.tally.tally.Given as goal
 
-abbrev pub invariant-loop-i : goal.invariant-loop-i
-invariant-loop-i l = (l.i ≤ seats) × (l.count ≤ l.i) × Walking (CountIs l.threshold l.count) ToNil l.initial.table l.initial.present l.initial.scratch l.from l.table l.present l.scratch l.at l.i
-
-abbrev pub decreases-loop-i : goal.decreases-loop-i
-decreases-loop-i l = seats - l.i
+abbrev pub invariant-loop : goal.invariant-loop
+invariant-loop l = (l.count ≤ l.counter) × Walking (CountIs l.threshold l.count) ToNil l.initial.table l.initial.queue l.initial.scratch l.from l.table l.queue l.scratch l.at l.counter

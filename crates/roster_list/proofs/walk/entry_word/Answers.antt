@@ -3,11 +3,7 @@ use Rattle.roster_list.proofs.Turning.{looks}
 use Rattle.roster_list.proofs.walk.entry_word.Goals as goal
 
 pub shape_of-table : goal.shape_of-table
-shape_of-table c = c.settle.auto.table ∙ c.settle-opened.auto.table ∙ c.settle-kept.auto.table
+shape_of-table c = c.settle-2.auto.table ∙ c.settle-pair.auto.table ∙ c.settle.auto.table
 
 pub returns : goal.returns
-returns c =
-    let first = c.settle-kept.ensures in
-    let second = c.settle-opened.ensures in
-    let third = c.settle.ensures in
-    looks _ first second (rw c.field_of.ensures at third)
+returns c = looks _ c.settle.ensures c.settle-pair.ensures (rw c.read_of.ensures at c.settle-2.ensures)
