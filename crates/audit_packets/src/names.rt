@@ -21,7 +21,7 @@ fn count_packet(scratch: &mut [u16], c: u16, p: Packet)
     requires { (scratch_words c ≤ length scratch.old) × Below c most_names scratch.old }
     ensures { CountPacket c (packet_of p) scratch.old scratch.new }
 {
-    let names = names_of(p.kind, p.a, p.b, p.c);
+    let names = names_of(p);
     raise(scratch, c, names.x);
     raise(scratch, c, names.y);
     raise(scratch, c, names.z);

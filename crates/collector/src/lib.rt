@@ -58,9 +58,9 @@ fn apply_oldest(table: &mut [u16], oldest: Packet, scratch: &mut [u16]) -> u16
     ensures { Applies table.old (packet_of oldest) scratch.old table.new scratch.new result }
 {
     let capacity = cells::capacity_of(table);
-    let watched = watched_of(oldest.kind, oldest.a, oldest.b, oldest.c);
-    counts::apply(table, oldest.kind, oldest.a, oldest.b);
-    unname_packet(table, oldest.kind, oldest.a, oldest.b, oldest.c);
+    let watched = watched_of(oldest);
+    counts::apply(table, oldest);
+    unname_packet(table, oldest);
     if stays_root(table, watched) {
         marks::clear(scratch, capacity);
         return 0;

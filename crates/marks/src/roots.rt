@@ -8,7 +8,7 @@ ghost use Rattle.machine.specs.ShortWay.{watched_of, stays_root};
 
 use machine::{NameCount, RootCount};
 use questions::is_cell;
-use queue::Kind;
+use queue::{Kind, Packet};
 
 // Whether a cell is a root.
 #[tactic(auto, unfolding(machine::specs::Reached::is_root, machine::specs::Reached::is_protected))]
@@ -21,13 +21,13 @@ pub fn rooted(table: &[u16], index: usize) -> bool
 
 // The word of a taken packet that tells whether anything can be freed.
 #[tactic(auto, unfolding(machine::specs::ShortWay::watched_of))]
-pub fn watched_of(kind: u16, a: u16, b: u16, c: u16) -> u16
-    ensures { result ≡ watched_of (kind_of kind) a b c }
+pub fn watched_of(packet: Packet) -> u16
+    ensures { result ≡ watched_of (kind_of packet.kind) packet.a packet.b packet.c }
 {
-    match Kind::of(kind) {
-        Some(Kind::Read | Kind::Down) => a,
-        Some(Kind::Cons) => c,
-        Some(Kind::ReplaceLeft | Kind::ReplaceRight) => b,
+    match packet.known_kind() {
+        Some(Kind::Read | Kind::Down) => packet.a,
+        Some(Kind::Cons) => packet.c,
+        Some(Kind::ReplaceLeft | Kind::ReplaceRight) => packet.b,
         Some(Kind::Up) | None => 0,
     }
 }
