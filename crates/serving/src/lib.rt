@@ -36,12 +36,21 @@ pub fn row_verdict(answer: RowAnswer) -> Verdict
     }
 }
 
+// Of a step that was taken.
+fn stepped(step: Step) -> Verdict
+    ensures { result ≡ verdict_of (step_reply (Ok step)) }
+{
+    match step {
+        Step::Idle => Verdict::Idle,
+        Step::Applied { kind: _, freed } => Verdict::Ok(freed),
+    }
+}
+
 pub fn step_verdict(answer: StepAnswer) -> Verdict
     ensures { result ≡ verdict_of (step_reply answer) }
 {
     match answer {
-        Ok(Step::Idle) => Verdict::Idle,
-        Ok(Step::Applied { kind: _, freed }) => Verdict::Ok(freed),
+        Ok(step) => stepped(step),
         Err(refusal) => refused(refusal),
     }
 }

@@ -36,12 +36,7 @@ fn serve_step(table: &mut [u16], queue: &mut Queue, scratch: &mut [u16]) -> Verd
     step_verdict(reply.answer)
 }
 
-pub fn serve(
-    table: &mut [u16],
-    queue: &mut Queue,
-    scratch: &mut [u16],
-    request: Request,
-) -> Verdict
+pub fn serve(table: &mut [u16], queue: &mut Queue, scratch: &mut [u16], request: Request) -> Verdict
     ensures { Good table.old queue.old
         → Serves (served (store table.old queue.old scratch.old) request) result (store table.new queue.new scratch.new) }
 {
