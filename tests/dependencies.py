@@ -14,6 +14,7 @@ import sys
 REPLIES = {'calls': 'FreshReply and RowReply are declared there', 'collector': 'Stepped is declared there'}
 UNNAMED = {
     'c_store': REPLIES,
+    'collector': {'arrayvec': 'ArrayVec, of which suspects replies one, is declared there'},
     'serving': REPLIES,
     'roster_cases': {'calls': REPLIES['calls']},
     'roster_list': REPLIES,
