@@ -14,8 +14,7 @@ import sys
 REPLIES = {'calls': 'FreshReply and RowReply are declared there', 'collector': 'Stepped is declared there'}
 UNNAMED = {
     'c_store': REPLIES,
-    'session_lines': REPLIES,
-    'load_lines': REPLIES,
+    'serving': REPLIES,
     'roster_cases': {'calls': REPLIES['calls']},
     'roster_list': REPLIES,
     'rule_lines': REPLIES,

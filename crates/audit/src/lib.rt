@@ -15,26 +15,24 @@ use live::all_reached;
 use machine::{AuditAnswer, Finding, Queue, Rule};
 use marks::clear;
 
+// Kept: a chain of conditions, since `?` would need each rule's bool made a Result first, `.then_some(()).ok_or(rule)?`, which is no plainer.
 fn judge(table: &[u16], queue: &Queue, scratch: &mut [u16]) -> Finding
     requires { Lent table.now queue.now scratch.old }
     ensures { Judged table.now queue.now scratch.old scratch.new result }
 {
     if !cells_sound(table) {
-        return Finding::Broken(Rule::Cells);
+        Finding::Broken(Rule::Cells)
+    } else if !chain_sound(table) {
+        Finding::Broken(Rule::FreeChain)
+    } else if !packets_sound(table, queue, scratch) {
+        Finding::Broken(Rule::Packets)
+    } else if !pointers_sound(table, queue, scratch) {
+        Finding::Broken(Rule::Pointers)
+    } else if !all_reached(table, scratch) {
+        Finding::Broken(Rule::Reached)
+    } else {
+        Finding::Sound
     }
-    if !chain_sound(table) {
-        return Finding::Broken(Rule::FreeChain);
-    }
-    if !packets_sound(table, queue, scratch) {
-        return Finding::Broken(Rule::Packets);
-    }
-    if !pointers_sound(table, queue, scratch) {
-        return Finding::Broken(Rule::Pointers);
-    }
-    if !all_reached(table, scratch) {
-        return Finding::Broken(Rule::Reached);
-    }
-    Finding::Sound
 }
 
 // For any table, queue and scratch. The table is only read, and the scratch's front is 0 afterwards, also where a rule is broken.

@@ -6,16 +6,18 @@ ghost use Rattle.machine.specs.Audit.{laid_out, chain_sound};
 ghost use Rattle.machine.specs.Facts.{TableShape};
 ghost use Rattle.audit_cells.specs.FreeChain.{free_or_used, free_laid_out, free_bit, free_cells, is_free_cell};
 
+use machine::{CellCount, NameCount, RootCount};
+
 #[tactic(auto, unfolding(machine::specs::Audit::laid_out, machine::specs::Range::every))]
 fn laid_out(table: &[u16], index: usize) -> bool
     requires { TableShape table.now × (index < capacity table.now) }
     ensures { result ≡ laid_out table.now index }
 {
     cells::field(table, index, cells::RIGHT) == 0
-        && cells::root_count(table, index).0 == 0
-        && cells::cell_count(table, index).0 == 0
+        && cells::count::<RootCount>(table, index).0 == 0
+        && cells::count::<CellCount>(table, index).0 == 0
         && cells::state_word(table, index) == 0
-        && cells::name_count(table, index).0 == 0
+        && cells::count::<NameCount>(table, index).0 == 0
 }
 
 #[tactic(auto, unfolding(crate::specs::FreeChain::free_or_used))]
@@ -42,7 +44,6 @@ fn free_cells(table: &[u16]) -> usize
         .count()
 }
 
-#[tactic(auto, using(crate::proofs::Tests::index_of), unfolding(crate::specs::FreeChain::is_free_cell, machine::specs::Table::is_free, machine::specs::Words::is_cell))]
 fn is_free_cell(table: &[u16], w: u16) -> bool
     requires { TableShape table.now }
     ensures { result ≡ is_free_cell table.now w }

@@ -8,7 +8,6 @@ ghost use Rattle.audit_cells.specs.Cells.{counts_sound, field_holds};
 use machine::{CellCount, FIRST_ATOM, Limited, RootCount};
 
 // A word is nil, an atom or a cell in use.
-#[tactic(auto, using(crate::proofs::Tests::index_of), unfolding(machine::specs::Audit::field_sound, machine::specs::Words::is_nil, machine::specs::Words::is_atom, machine::specs::Words::is_cell))]
 pub fn field_sound(table: &[u16], w: u16) -> bool
     requires { TableShape table.now }
     ensures { result ≡ field_sound table.now w }
@@ -25,8 +24,8 @@ fn counts_sound(table: &[u16], index: usize) -> bool
     ensures { result ≡ counts_sound table.now index }
 {
     cells::state_word(table, index) <= cells::USED
-        && cells::root_count(table, index).0 <= RootCount::CEILING
-        && cells::cell_count(table, index).0 <= CellCount::CEILING
+        && cells::count::<RootCount>(table, index).0 <= RootCount::CEILING
+        && cells::count::<CellCount>(table, index).0 <= CellCount::CEILING
 }
 
 #[tactic(auto, unfolding(crate::specs::Cells::field_holds, machine::specs::Table::is_free))]
@@ -38,6 +37,7 @@ fn field_holds(table: &[u16], index: usize, k: usize) -> bool
 }
 
 // Stops at the first cell field that breaks the rule.
+// Kept: a labelled loop left from the inner one, in place of two `all`, since document 01 names the audit's S1 loop so.
 pub fn cells_sound(table: &[u16]) -> bool
     requires { TableShape table.now }
     ensures { result ≡ cells_sound table.now }

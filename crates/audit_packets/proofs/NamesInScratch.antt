@@ -19,10 +19,10 @@ use Rattle.machine.proofs.Ring.{packets_snoc, length_packets}
 use Rattle.machine.proofs.Scratch.{cleared_zero, past_cleared}
 use Rattle.counts.specs.Names.{three_of}
 use Rattle.marks.proofs.Scratch.{cell_word}
-use Rattle.scratch_counts.specs.Counts.{CountUp, Below}
+use Rattle.scratch_counts.specs.Counts.{CountUp, Below, count_matches}
 use Rattle.audit_cells.proofs.Tests.{every_same}
 use Rattle.audit_packets.specs.Packets.{packet_on, oldest}
-use Rattle.audit_packets.specs.Names.{most_names, CountPacket, NamesCount, name_matches}
+use Rattle.audit_packets.specs.Names.{most_names, CountPacket, NamesCount}
 
 nil_other : (i : ℕ) → matching 0 (suc i) 1 ≡ 0
 nil_other i = matching_other 0 (suc i) 1 (λ e. omega arith)
@@ -97,10 +97,10 @@ module _ (c : ℕ) (q : Queue) where
 
 -- the name counts are the scratch's counts just where the rule holds
 pub matched_counted : (t : List ℕ) (ps : List Packet) (s s' : List ℕ) (c : ℕ) → c ≡ capacity t → NamesCount c ps s s'
-    → every (capacity t) (name_matches t s') ≡ names_counted t ps
-unfolding names_counted name_matches
+    → every (capacity t) (count_matches name_count t s') ≡ names_counted t ps
+unfolding names_counted count_matches
 matched_counted t ps s s' c e h =
-    every_same (capacity t) (name_matches t s') (λ i. eqb (word_at t i name_count) (times_named ps (suc i)))
+    every_same (capacity t) (count_matches name_count t s') (λ i. eqb (word_at t i name_count) (times_named ps (suc i)))
     (λ i l. ap (eqb (word_at t i name_count)) (h.each i (omega arith)))
 
 pub names_past : (t : List ℕ) (ps : List Packet) (s s' : List ℕ) (c : ℕ) → c ≡ capacity t → NamesCount c ps s s'

@@ -1,9 +1,9 @@
 -- S3's name counts as the code asks them: the names counted in the scratch, packet by packet from the oldest, then each cell's name count against them.
-use Rattle.std.specs.Prelude.{◌≡◌, Bool, List, ℕ, suc, ◌+◌, ◌*◌, ◌<◌, eqb, get_or, drop}
+use Rattle.std.specs.Prelude.{◌≡◌, List, ℕ, suc, ◌+◌, ◌*◌, ◌<◌, get_or, drop}
 use Rattle.machine.specs.Packets.{names, times_named}
 use Rattle.machine.specs.Queue.{Packet, slots}
 use Rattle.machine.specs.Range.{occurrences}
-use Rattle.machine.specs.Table.{name_count, scratch_words, word_at}
+use Rattle.machine.specs.Table.{scratch_words}
 
 -- three places in each of the most packets
 abbrev pub most_names : ℕ
@@ -18,6 +18,3 @@ pub record CountPacket (c : ℕ) (p : Packet) (s s' : List ℕ) : Type 0 where
 pub record NamesCount (c : ℕ) (ps : List Packet) (s s' : List ℕ) : Type 0 where
   pub each : ((i : ℕ) → i < c → get_or s' i 0 ≡ times_named ps (suc i))
   pub past : drop (scratch_words c) s' ≡ drop (scratch_words c) s
-
-unfoldable pub name_matches : List ℕ → List ℕ → ℕ → Bool
-name_matches t s i = eqb (word_at t i name_count) (get_or s i 0)

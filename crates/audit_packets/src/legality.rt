@@ -11,35 +11,35 @@ use crate::slots::packet_on;
 use audit_cells::fields::field_sound;
 use machine::Queue;
 use questions::{is_cell, is_legal, number_in_range};
-use queue::Packet;
+use queue::{Kind, Packet};
 
 // By the call that queued the packet.
-#[tactic(auto, unfolding(machine::specs::Audit::words_of_kind, machine::specs::Packets::kind_of))]
+#[tactic(auto, unfolding(machine::specs::Audit::words_of_kind))]
 fn words_legal(n: u16, p: Packet) -> bool
     ensures { result ≡ words_of_kind n (kind_of p.kind) p.a p.b p.c }
 {
-    match p.kind {
-        Packet::READ => is_cell(n, p.a) && is_legal(n, p.b) && p.c == 0,
-        Packet::CONS | Packet::REPLACE_LEFT | Packet::REPLACE_RIGHT => {
+    match p.known_kind() {
+        Some(Kind::Read) => is_cell(n, p.a) && is_legal(n, p.b) && p.c == 0,
+        Some(Kind::Cons | Kind::ReplaceLeft | Kind::ReplaceRight) => {
             is_legal(n, p.a) && is_legal(n, p.b) && is_cell(n, p.c)
         }
-        Packet::UP | Packet::DOWN => is_cell(n, p.a) && number_in_range(p.b) && p.c == 0,
-        _ => false,
+        Some(Kind::Up | Kind::Down) => is_cell(n, p.a) && number_in_range(p.b) && p.c == 0,
+        None => false,
     }
 }
 
 // An up and a down name a only.
-#[tactic(auto, unfolding(machine::specs::Audit::names_in_use, machine::specs::Packets::names, machine::specs::Packets::names_of, machine::specs::Packets::kind_of, machine::specs::Range::every_of))]
+#[tactic(auto, unfolding(machine::specs::Audit::names_in_use, machine::specs::Packets::names, machine::specs::Packets::names_of, machine::specs::Range::every_of))]
 fn names_in_use(table: &[u16], p: Packet) -> bool
     requires { TableShape table.now }
     ensures { result ≡ names_in_use table.now (packet_of p) }
 {
-    match p.kind {
-        Packet::READ | Packet::CONS | Packet::REPLACE_LEFT | Packet::REPLACE_RIGHT => {
+    match p.known_kind() {
+        Some(Kind::Read | Kind::Cons | Kind::ReplaceLeft | Kind::ReplaceRight) => {
             field_sound(table, p.a) && field_sound(table, p.b) && field_sound(table, p.c)
         }
-        Packet::UP | Packet::DOWN => field_sound(table, p.a),
-        _ => true,
+        Some(Kind::Up | Kind::Down) => field_sound(table, p.a),
+        None => true,
     }
 }
 

@@ -19,6 +19,7 @@ use replay::packets_replay;
 use slots::other_slots_zero;
 
 // Exact where S1 holds, which is asked first.
+// Kept: table and queue are only read and scratch is written, so a struct of the three would be lent apart again, `&mut *lent.scratch`, at each call.
 #[tactic(auto, unfolding(machine::specs::Audit::packets_sound, crate::specs::Packets::replays_all))]
 pub fn packets_sound(table: &[u16], queue: &Queue, scratch: &mut [u16]) -> bool
     requires { Lent table.now queue.now scratch.old × (cells_sound table.now ≡ true) }

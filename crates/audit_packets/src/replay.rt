@@ -12,21 +12,21 @@ ghost use Rattle.audit_packets.specs.Packets.{packet_on, oldest, HeldAfter, stag
 use crate::slots::packet_on;
 use machine::{Queue, RootCount};
 use questions::is_cell;
-use queue::{HeldSums, Packet};
+use queue::{HeldSums, Kind, Packet};
 
 // How often the call behind a packet names x.
-#[tactic(auto, unfolding(machine::specs::Packets::uses, machine::specs::Packets::uses_of, machine::specs::Packets::kind_of))]
+#[tactic(auto, unfolding(machine::specs::Packets::uses, machine::specs::Packets::uses_of))]
 fn times_named(p: Packet, x: u16) -> u32
     ensures { (result ≡ uses (packet_of p) x) × (result ≤ largest_word) }
 {
-    match p.kind {
-        Packet::READ | Packet::UP => queue::matched(p.a, x, 1),
-        Packet::CONS => queue::matched(p.a, x, 1) + queue::matched(p.b, x, 1),
-        Packet::REPLACE_LEFT | Packet::REPLACE_RIGHT => {
+    match p.known_kind() {
+        Some(Kind::Read | Kind::Up) => queue::matched(p.a, x, 1),
+        Some(Kind::Cons) => queue::matched(p.a, x, 1) + queue::matched(p.b, x, 1),
+        Some(Kind::ReplaceLeft | Kind::ReplaceRight) => {
             queue::matched(p.a, x, 1) + queue::matched(p.c, x, 1)
         }
-        Packet::DOWN => queue::matched(p.a, x, p.b),
-        _ => 0,
+        Some(Kind::Down) => queue::matched(p.a, x, p.b),
+        None => 0,
     }
 }
 
@@ -35,7 +35,7 @@ fn held_after(queue: &Queue, j: u16, x: u16, root: RootCount) -> HeldSums
     requires { (queue.now.place < slots) × (j ≤ slots) }
     ensures { HeldAfter (oldest queue.now j) x root.0 result }
 {
-    let sums = queue::waiting_changes(&queue.kinds, &queue.a, &queue.b, queue.place, j, x);
+    let sums = queue::waiting_changes(queue, j, x);
     sums.held.with(root)
 }
 
@@ -56,7 +56,12 @@ fn word_replays(table: &[u16], queue: &Queue, j: u16, x: u16) -> bool
     ensures { result ≡ word_replays table.now queue.now j x }
 {
     !is_cell(cells::capacity_of(table), x)
-        || stage_sound(queue, j, x, cells::root_count(table, (x - 1) as usize))
+        || stage_sound(
+            queue,
+            j,
+            x,
+            cells::count::<RootCount>(table, (x - 1) as usize),
+        )
 }
 
 #[tactic(auto, unfolding(crate::specs::Packets::packet_replays))]

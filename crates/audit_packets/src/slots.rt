@@ -14,7 +14,7 @@ pub fn packet_on(queue: &Queue, j: u16) -> Packet
     requires { (queue.now.place < slots) × (j < slots) }
     ensures { packet_of result ≡ packet_on queue.now j }
 {
-    queue::packet_at(*queue, queue::slot_after(queue.place, j))
+    queue::packet_at(queue, queue::slot_after(queue.place, j))
 }
 
 #[tactic(auto, unfolding(machine::specs::Audit::is_zero_packet))]

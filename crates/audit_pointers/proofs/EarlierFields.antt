@@ -7,7 +7,7 @@ use Prim.Native.Nat.{ℕ, zero, suc, pred, ◌+◌, ◌-◌, ◌%◌, ◌≤◌,
 use native.Mathlib.Omega.{arith}
 use lib.Dec.{leb, ltb, eqb, eqb-suc-suc}
 use lib.ListN.{length}
-use borrow.Author.Tests.{leb-true, eqb-true, ne_eqb}
+use borrow.Author.Tests.{leb-true, eqb-true}
 use Rattle.machine.specs.declared.Queue.{Queue}
 use Rattle.machine.specs.Audit.{field_sound, words_of_kind, packet_legal, names_in_use, packets_legal, undoable_of, undone_of, undoable, undone, before}
 use Rattle.machine.specs.Packets.{Kind, reads, makes, replaces, raises, lowers, unknown, kind_of, names_of, names}
@@ -221,15 +221,13 @@ Keeps raises = Unit {0}
 Keeps lowers = Unit {0}
 Keeps unknown = Unit {0}
 
-keeps_cond : (b : Bool) (x y : Kind) → Keeps x → Keeps y → Keeps (cond b x y)
-keeps_cond true x y h k = h
-keeps_cond false x y h k = k
-
-pub keeps : (k : ℕ) → (k ≡ 2 → ⊥) → (k ≡ 3 → ⊥) → (k ≡ 6 → ⊥) → Keeps (kind_of k)
-unfolding kind_of
-keeps k a b c =
-    rw (ne_eqb k 2 a, ne_eqb k 3 b, ne_eqb k 6 c)
-    (keeps_cond (eqb k 1) reads _ tt (keeps_cond (eqb k 4) raises _ tt (keeps_cond (eqb k 5) lowers unknown tt tt)))
+pub keeps : (κ : Kind) → (κ ≡ makes → ⊥) → ((k : ℕ) → κ ≡ replaces k → ⊥) → Keeps κ
+keeps reads f g = tt
+keeps makes f g = f refl
+keeps (replaces k) f g = g k refl
+keeps raises f g = tt
+keeps lowers f g = tt
+keeps unknown f g = tt
 
 pub kept_undo : (v : List ℕ) (p : Packet) → Keeps (kind_of p.kind) → (undone v p ≡ v) × (undoable v p ≡ true)
 unfolding undone undoable

@@ -19,7 +19,8 @@ use Rattle.machine.proofs.Range.{not_both, and_both, and_first, and_second, refu
 use Rattle.machine.proofs.Undo.{undoes_within}
 use Rattle.audit_packets.specs.Packets.{packet_on}
 use Rattle.audit_pointers.specs.EarlierFields.{newer}
-use Rattle.audit_pointers.specs.PointerCounts.{Counted, count_within, count_matches}
+use Rattle.scratch_counts.specs.Counts.{count_matches}
+use Rattle.audit_pointers.specs.PointerCounts.{Counted, count_within}
 use Rattle.audit_pointers.specs.UndoStages.{stage, Stageable, Undoing, Undoable, UndoesPacket}
 use Rattle.audit_pointers.proofs.EarlierFields.{newer_step, newer_none, newer_all}
 use Rattle.audit_cells.proofs.Tests.{and_decides, every_same}
@@ -84,10 +85,10 @@ module _ (t : List ℕ) (q : Queue) where
       (sym u.answer ∙ k))
 
   -- at the end the cell counts are compared
-  pub undo_done : (j : ℕ) (s₀ s : List ℕ) → Undoing t q j s₀ s → j ≡ 0 → every (capacity t) (count_matches t s) ≡ pointers_sound t (waiting q)
+  pub undo_done : (j : ℕ) (s₀ s : List ℕ) → Undoing t q j s₀ s → j ≡ 0 → every (capacity t) (count_matches cell_count t s) ≡ pointers_sound t (waiting q)
   unfolding pointers_sound count_matches
   undo_done j s₀ s h z =
-      every_same (capacity t) (count_matches t s) same (λ i l. ap (eqb (word_at t i cell_count)) (h.each i l ∙ ap (λ (v : List ℕ). pointers v (suc i)) end))
+      every_same (capacity t) (count_matches cell_count t s) same (λ i l. ap (eqb (word_at t i cell_count)) (h.each i l ∙ ap (λ (v : List ℕ). pointers v (suc i)) end))
       ∙ and_decides (every (capacity t) same) (ap (undoes t) (sym all_of) ∙ h.holds)
     where
       all_of : newer q j ≡ waiting q

@@ -1,7 +1,7 @@
 -- Pointer counts in the scratch: word i counts the pointers to the cell at index i.
-use Rattle.std.specs.Prelude.{◌≡◌, Bool, not, ◌||◌, List, ℕ, suc, pred, ◌+◌, ◌*◌, ◌<◌, leb, eqb, get_or, drop}
+use Rattle.std.specs.Prelude.{◌≡◌, Bool, not, ◌||◌, List, ℕ, suc, pred, ◌+◌, ◌*◌, ◌<◌, leb, get_or, drop}
 use Rattle.machine.specs.Counts.{pointers, pointers_from}
-use Rattle.machine.specs.Table.{cell_count, capacity, scratch_words, word_at}
+use Rattle.machine.specs.Table.{capacity, scratch_words}
 use Rattle.machine.specs.Words.{is_cell, ceiling, most_cells}
 
 -- two fields in each of the most cells
@@ -23,6 +23,3 @@ count_within s i = leb (get_or s i 0) ceiling
 
 unfoldable pub word_within : ℕ → List ℕ → ℕ → Bool
 word_within c s w = not (is_cell c w) || count_within s (pred w)
-
-unfoldable pub count_matches : List ℕ → List ℕ → ℕ → Bool
-count_matches t s i = eqb (word_at t i cell_count) (get_or s i 0)

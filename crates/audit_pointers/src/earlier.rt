@@ -8,7 +8,7 @@ ghost use Rattle.audit_pointers.specs.EarlierFields.{newer, field_before, stage_
 
 use audit_packets::slots::packet_on;
 use machine::Queue;
-use queue::Packet;
+use queue::{Kind, Packet};
 
 // A word put back where the cell is the one written.
 fn put_back(cell: u16, index: usize, old: u16, after: u16) -> u16
@@ -23,15 +23,15 @@ fn put_back(cell: u16, index: usize, old: u16, after: u16) -> u16
 }
 
 // Field k of the cell at an index before a packet, from what it holds after it.
-#[tactic(auto, unfolding(crate::specs::EarlierFields::field_before, crate::specs::EarlierFields::field_before_of, machine::specs::Packets::kind_of))]
+#[tactic(auto, unfolding(crate::specs::EarlierFields::field_before, crate::specs::EarlierFields::field_before_of))]
 fn field_before(p: Packet, index: usize, k: usize, after: u16) -> u16
     requires { (index < most_cells) × (k ≤ right) }
     ensures { result ≡ field_before (packet_of p) index k after }
 {
-    match p.kind {
-        Packet::CONS => put_back(p.c, index, 0, after),
-        Packet::REPLACE_LEFT if k == cells::LEFT => put_back(p.c, index, p.b, after),
-        Packet::REPLACE_RIGHT if k == cells::RIGHT => put_back(p.c, index, p.b, after),
+    match p.known_kind() {
+        Some(Kind::Cons) => put_back(p.c, index, 0, after),
+        Some(Kind::ReplaceLeft) if k == cells::LEFT => put_back(p.c, index, p.b, after),
+        Some(Kind::ReplaceRight) if k == cells::RIGHT => put_back(p.c, index, p.b, after),
         _ => after,
     }
 }

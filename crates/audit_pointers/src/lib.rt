@@ -14,11 +14,11 @@ ghost use Rattle.audit_packets.specs.Answers.{Audits};
 ghost use Rattle.audit_pointers.specs.UndoStages.{UsedCell, Stageable, Undoing, Undoable, UndoesKind, UndoesPacket};
 
 use crate::earlier::stage_field;
-use crate::pointers::{all_within, count_pointers, counts_match, word_within};
+use crate::pointers::{all_within, count_pointers, word_within};
 use audit_packets::slots::packet_on;
-use machine::Queue;
-use queue::Packet;
-use scratch_counts::{lower, raise};
+use machine::{CellCount, Queue};
+use queue::{Kind, Packet};
+use scratch_counts::{counts_match, lower, raise};
 
 fn undo_replace(
     table: &[u16],
@@ -41,6 +41,7 @@ fn undo_replace(
 }
 
 // Nil twice for a and b: pointers only fall.
+// Kept: apart from `undo_replace`, which undoes one field and tests b's count: one function would branch on both, and be no plainer.
 fn undo_cons(table: &[u16], queue: &Queue, j: u16, p: Packet, scratch: &mut [u16]) -> bool
     requires { Undoable table.now queue.now j scratch.old × UsedCell table.now p.c }
     ensures { UndoesKind table.now queue.now j makes p.a p.b p.c scratch.old scratch.new result }
@@ -63,11 +64,12 @@ fn undo(table: &[u16], queue: &Queue, j: u16, scratch: &mut [u16]) -> bool
     ensures { UndoesPacket table.now queue.now j scratch.old scratch.new result }
 {
     let p = packet_on(queue, j);
-    match p.kind {
-        Packet::CONS => undo_cons(table, queue, j, p, scratch),
-        Packet::REPLACE_LEFT => undo_replace(table, queue, j, cells::LEFT, p, scratch),
-        Packet::REPLACE_RIGHT => undo_replace(table, queue, j, cells::RIGHT, p, scratch),
-        _ => true,
+    match p.known_kind() {
+        Some(Kind::Cons) => undo_cons(table, queue, j, p, scratch),
+        Some(Kind::ReplaceLeft) => undo_replace(table, queue, j, cells::LEFT, p, scratch),
+        Some(Kind::ReplaceRight) => undo_replace(table, queue, j, cells::RIGHT, p, scratch),
+        Some(Kind::Read | Kind::Up | Kind::Down) => true,
+        None => true,
     }
 }
 
@@ -80,7 +82,7 @@ fn undo_all(table: &[u16], queue: &Queue, scratch: &mut [u16]) -> bool
             return false;
         }
     }
-    counts_match(table, scratch)
+    counts_match::<CellCount>(table, scratch)
 }
 
 // Exact where S3 holds, which is asked before.

@@ -4,7 +4,7 @@ ghost use Rattle.machine.specs.Range.{every};
 ghost use Rattle.machine.specs.Table.{capacity, scratch_words};
 ghost use Rattle.machine.specs.Facts.{TableShape};
 ghost use Rattle.scratch_counts.specs.Counts.{Below};
-ghost use Rattle.audit_pointers.specs.PointerCounts.{most_pointers, CountCell, Counted, count_within, word_within, count_matches};
+ghost use Rattle.audit_pointers.specs.PointerCounts.{most_pointers, CountCell, Counted, count_within, word_within};
 
 use machine::{CellCount, Limited};
 use marks::clear;
@@ -41,18 +41,9 @@ pub(crate) fn all_within(scratch: &[u16], c: u16) -> bool
         .all(|count| *count <= CellCount::CEILING)
 }
 
-#[tactic(auto, using(audit_cells::proofs::Tests::index_of), unfolding(crate::specs::PointerCounts::word_within, crate::specs::PointerCounts::count_within, machine::specs::Words::is_cell, machine::specs::Table::scratch_words))]
 pub(crate) fn word_within(scratch: &[u16], c: u16, w: u16) -> bool
     requires { scratch_words c ≤ length scratch.now }
     ensures { result ≡ word_within c scratch.now w }
 {
     !is_cell(c, w) || scratch[(w - 1) as usize] <= CellCount::CEILING
-}
-
-#[tactic(auto, unfolding(machine::specs::Table::scratch_words))]
-pub(crate) fn counts_match(table: &[u16], scratch: &[u16]) -> bool
-    requires { TableShape table.now × (scratch_words (capacity table.now) ≤ length scratch.now) }
-    ensures { result ≡ every (capacity table.now) (count_matches table.now scratch.now) }
-{
-    (0..cells::capacity_of(table) as usize).all(|i| cells::cell_count(table, i).0 == scratch[i])
 }

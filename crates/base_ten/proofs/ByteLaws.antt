@@ -1,80 +1,55 @@
--- Sameness of bytes and search by place, as loops go.
-use mathlib.Core.Path.{◌≡◌, refl, sym, ap, ◌∙◌}
-use mathlib.Core.Bool.{Bool, true, false, ◌&&◌}
-use mathlib.Core.List.{List, [], ◌∷◌}
-use Prim.Native.Nat.{ℕ, suc, ◌+◌, ◌≤◌, ◌<◌}
-use native.Mathlib.Numerals.{add-one}
-use native.Mathlib.Omega.{arith}
-use lib.Dec.{eqb}
-use lib.ListN.{length, get_or, drop, drop_of_length-le}
-use lib.Seq.{drop-cons}
-use borrow.Author.Tests.{eq-eqb, ne_eqb, eqb-true}
-use Rattle.base_ten.specs.Bytes.{same_bytes, before}
+-- What a search for a byte tells.
+use Rattle.std.proofs.Common.{◌≡◌, ℕ, suc, ◌+◌, ◌<◌, zero-le, Bool, true, false, cond, ltb, ◌==◌, List, ◌∷◌, Option, None, Some, MatchOption, length, get_or, drop, position, sym, refl, ap, ◌∙◌, ◌-◌, take, add-one, arith, drop-cons, take_all, length-drop, eq-eqb, ne_eqb}
+use borrow.Author.Tests.{ltb-true, ltb-false}
+use Rattle.std.specs.List.{position_or_len}
+use Rattle.std.proofs.lemmas.List.Recursion.{is_position_or_len}
+use Rattle.std.proofs.lemmas.List.Sums.{position_or_len_is}
+use Rattle.memchr.specs.Find.{IsFirstByte, is_byte}
+use Rattle.base_ten.specs.Bytes.{before}
+use Rattle.base_ten.proofs.WordLaws.{before_most}
 
 pub drop_at : (s : List ℕ) (i : ℕ) → i < length s → drop i s ≡ get_or s i 0 ∷ drop (i + 1) s
 drop_at s i h = rw (add-one i) (drop-cons s i 0 h)
 
-pub same_cons : (x y : ℕ) (u v : List ℕ) → x ≡ y → same_bytes (x ∷ u) (y ∷ v) ≡ same_bytes u v
-unfolding same_bytes
-same_cons x y u v h = rw (eq-eqb x y h)
+suc_add : (n : ℕ) → suc n ≡ 1 + n
+suc_add n = omega arith
 
-pub same_cons_other : (x y : ℕ) (u v : List ℕ) → (x ≡ y → ⊥) → same_bytes (x ∷ u) (y ∷ v) ≡ false
-unfolding same_bytes
-same_cons_other x y u v h = rw (ne_eqb x y h)
+-- the first b of s stands at this place, or there is none
+abbrev pub Found : ℕ → List ℕ → Option ℕ → Type 0
+Found b s r = MatchOption r (before b s ≡ length s) (λ i. (i ≡ before b s) × (i < length s))
 
-pub same_lengths : (u v : List ℕ) → (length u ≡ length v → ⊥) → same_bytes u v ≡ false
-unfolding same_bytes
-same_lengths [] [] h = absurd (h refl)
-same_lengths [] (y ∷ v) h = refl
-same_lengths (x ∷ u) [] h = refl
-same_lengths (x ∷ u) (y ∷ v) h = rw (same_lengths u v (λ e. h (ap suc e))) (and-false (eqb x y))
-  where
-    and-false : (b : Bool) → (b && false) ≡ false
-    and-false true = refl
-    and-false false = refl
-
-pub same_equal : (u v : List ℕ) → same_bytes u v ≡ true → u ≡ v
-unfolding same_bytes
-same_equal [] [] h = refl
-same_equal [] (y ∷ v) h = cc
-same_equal (x ∷ u) [] h = cc
-same_equal (x ∷ u) (y ∷ v) h = go (eqb x y) refl h (same_equal u v)
-  where
-    go : (t : Bool) → eqb x y ≡ t → (t && same_bytes u v) ≡ true → (same_bytes u v ≡ true → u ≡ v) → x ∷ u ≡ y ∷ v
-    go true e l rest = rw (eqb-true x y e, rest l)
-    go false e l rest = cc
-
-module _ (a b : List ℕ) (i : ℕ) where
-  pub same_step : i < length a → i < length b → get_or a i 0 ≡ get_or b i 0 → same_bytes (drop i a) (drop i b) ≡ same_bytes (drop (i + 1) a) (drop (i + 1) b)
-  same_step ha hb e = rw (drop_at a i ha, drop_at b i hb) (same_cons _ _ _ _ e)
-
-  pub same_differ : i < length a → i < length b → (get_or a i 0 ≡ get_or b i 0 → ⊥) → same_bytes (drop i a) (drop i b) ≡ false
-  same_differ ha hb e = rw (drop_at a i ha, drop_at b i hb) (same_cons_other _ _ _ _ e)
-
-  pub same_end : length a ≤ i → length b ≤ i → same_bytes (drop i a) (drop i b) ≡ true
-  unfolding same_bytes
-  same_end ha hb = rw (drop_of_length-le a ha, drop_of_length-le b hb)
-
-module _ (b : ℕ) (s : List ℕ) (i : ℕ) where
-  pub before_step : i < length s → (get_or s i 0 ≡ b → ⊥) → i + before b (drop i s) ≡ i + 1 + before b (drop (i + 1) s)
+module _ (b : ℕ) (s : List ℕ) where
+  before_is : before b s ≡ position_or_len (λ x. x == b) s
   unfolding before
-  before_step h e = rw (drop_at s i h, ne_eqb (get_or s i 0) b e) (omega arith)
+  before_is = is_position_or_len (before b) (λ x. x == b) refl (λ x xs. ap (cond (x == b) 0) (suc_add (before b xs))) s
 
-  pub before_found : i < length s → get_or s i 0 ≡ b → i + before b (drop i s) ≡ i
-  unfolding before
-  before_found h e = rw (drop_at s i h, eq-eqb (get_or s i 0) b e) (omega arith)
+  pub position_found : (r : Option ℕ) → r ≡ position (λ x. x == b) s → Found b s r
+  position_found r e = go (ltb (position_or_len (λ x. x == b) s) (length s)) refl r e
+    where
+      go : (t : Bool) → ltb (position_or_len (λ x. x == b) s) (length s) ≡ t → (r : Option ℕ)
+          → r ≡ cond t (Some (position_or_len (λ x. x == b) s)) None → Found b s r
+      go true l None e = cc
+      go true l (Some i) e =
+          let same : i ≡ position_or_len (λ x. x == b) s = cc in
+          let less = ltb-true _ _ l in
+          (same ∙ sym before_is, omega arith)
+      go false l None e = let more = ltb-false _ _ l in omega (arith, before_is, before_most b s)
+      go false l (Some i) e = cc
 
-  pub before_end : length s ≤ i → i + before b (drop i s) ≡ i
-  unfolding before
-  before_end h = rw (drop_of_length-le s h) (omega arith)
+  pub first_found : (r : Option ℕ) → IsFirstByte (is_byte b) s r → Found b s r
+  first_found None h =
+      before_is
+      ∙ position_or_len_is (λ x. x == b) s (length s) 0 (omega arith) (λ k l. ne_eqb _ b (λ e. h k zero-le l (eq-eqb _ b e))) (λ l. absurd (omega arith))
+  first_found (Some i) h =
+      let high = h.0.high in (
+        sym
+            (before_is
+            ∙ position_or_len_is (λ x. x == b) s i 0 (omega arith) (λ k l. ne_eqb _ b (λ e. h.0.before k zero-le l (eq-eqb _ b e))) (λ l. h.1)),
+        high,
+      )
 
--- the first j bytes are no b
-abbrev pub Past : ℕ → List ℕ → ℕ → Type 0
-Past b s j = j + before b (drop j s) ≡ before b s
-
-module _ (b : ℕ) (s : List ℕ) (j : ℕ) (p : Past b s j) where
-  pub past_next : (k : ℕ) → k ≡ j + 1 → j < length s → (get_or s j 0 ≡ b → ⊥) → Past b s k
-  past_next k e h other = rw e (sym (before_step b s j h other) ∙ p)
-
-  pub past_found : j < length s → get_or s j 0 ≡ b → j ≡ before b s
-  past_found h e = sym (before_found b s j h e) ∙ p
+-- the same from a place on
+pub first_from : (b : ℕ) (s : List ℕ) (start : ℕ) (r : Option ℕ) → IsFirstByte (is_byte b) (take (length s - start) (drop start s)) r → Found b (drop start s) r
+first_from b s start r h =
+    let rest : take (length s - start) (drop start s) ≡ drop start s = take_all _ _ (omega (arith, length-drop start s)) in
+    first_found b (drop start s) r (rw rest at h)

@@ -7,7 +7,7 @@ use native.Mathlib.Nat.{pow-suc, zero-add}
 use native.Mathlib.Omega.{arith}
 use lib.Dec.{ltb}
 use borrow.Author.Tests.{ne_eqb, ltb-true, ltb-false, le-leb}
-use Rattle.base_ten.specs.declared.Number.{Number}
+use Rattle.std.specs.Prelude.{Some}
 use Rattle.base_ten.specs.Bytes.{digit_zero, digit_nine}
 use Rattle.base_ten.specs.Numbers.{number_from, number_of}
 use Rattle.base_ten.specs.Decimal.{digits, most_digits, decimal}
@@ -69,7 +69,7 @@ unfolding number_of
 number_leads most s l = rw (l.is, ne_eqb l.first digit_zero l.above)
 
 -- what is written in base ten is read as that number
-pub decimal_read : (most n : ℕ) → n ≤ most → n < 2 ^ 64 → number_of most (decimal n) ≡ Number.Value n
+pub decimal_read : (most n : ℕ) → n ≤ most → n < 2 ^ 64 → number_of most (decimal n) ≡ Some n
 unfolding number_from number_of digits
 decimal_read most zero h l = refl
 decimal_read most (suc n) h l =

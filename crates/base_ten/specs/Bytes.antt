@@ -1,5 +1,5 @@
--- Lists of bytes: texts as bytes, sameness, and splitting at a byte.
-use Rattle.std.specs.Prelude.{Bool, true, false, cond, ◌&&◌, List, [], ◌∷◌, ℕ, suc, eqb}
+-- Lists of bytes: texts as bytes, and splitting at a byte.
+use Rattle.std.specs.Prelude.{◌≡◌, cond, List, [], ◌∷◌, ◌++◌, ℕ, suc, eqb, length}
 use Prim.Native.Char.{code}
 use Prim.Native.String.{String, [] as end, ◌∷◌ as ◌then◌}
 
@@ -21,16 +21,15 @@ abbrev pub ascii : String → List ℕ
 ascii end = []
 ascii (◌then◌ c s) = code c ∷ ascii s
 
-unfoldable pub same_bytes : List ℕ → List ℕ → Bool
-same_bytes [] [] = true
-same_bytes [] (b ∷ v) = false
-same_bytes (a ∷ u) [] = false
-same_bytes (a ∷ u) (b ∷ v) = eqb a b && same_bytes u v
-
 -- how many bytes stand before the first b
 unfoldable pub before : ℕ → List ℕ → ℕ
 before b [] = 0
 before b (x ∷ xs) = cond (eqb x b) 0 (suc (before b xs))
+
+-- s is one part, its first b, and another part
+pub record SplitsAt (b : ℕ) (s left right : List ℕ) : Type 0 where
+  pub whole : s ≡ left ++ b ∷ right
+  pub first : before b left ≡ length left
 
 -- a byte in front of the first part
 abbrev pub on_first : ℕ → List (List ℕ) → List (List ℕ)

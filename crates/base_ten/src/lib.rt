@@ -4,10 +4,3 @@
 pub mod bytes;
 pub mod numbers;
 pub mod put;
-
-// What a word says as a number.
-#[derive(Clone, Copy)]
-pub enum Number {
-    Value(u32),
-    Nothing,
-}

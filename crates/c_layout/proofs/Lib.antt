@@ -1,4 +1,3 @@
-pub mod LengthLaws
 pub mod QueueLaws
 pub mod Faithful
 pub mod Cases

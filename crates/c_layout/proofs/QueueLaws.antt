@@ -3,29 +3,12 @@ use mathlib.Core.Path.{◌≡◌, sym, ap, ◌∙◌}
 use mathlib.Core.List.{List, [], ◌∷◌, ◌++◌, append_assoc}
 use Prim.Native.Nat.{ℕ, zero, suc, ◌+◌, ◌≤◌, ◌<◌}
 use native.Mathlib.Nat.{zero-add, suc-add}
-use native.Mathlib.Numerals.{add-one}
 use native.Mathlib.Omega.{arith}
-use lib.ListN.{length, take, drop, get_or, set, length-drop, length-set}
-use lib.Seq.{take_all, take-suc, take-suc-set, length-take-le, get_or-drop, get_or-set_same, get_or-set_other, take-set-le, take-take, take_at, drop_at, take-nil}
+use lib.ListN.{length, take, drop, get_or, set, length-set}
+use lib.Seq.{take_all, length-take-le, get_or-set_same, get_or-set_other, take-set-le, take-take, take_at, drop_at, take-nil}
 use Rattle.machine.specs.declared.Queue.{Queue}
 use Rattle.machine.specs.Queue.{slots, Arrays}
 use Rattle.c_layout.specs.Queues.{array_at, array_in, place_at, count_at, queue_words, queue_in, ArrayPut}
-
--- an array read, one word more
-pub read_more : (array words : List ℕ) (m i : ℕ) → i < length array → m + i < length words → take i array ≡ take i (drop m words)
-    → take (i + 1) (set array i (get_or words (m + i) 0)) ≡ take (i + 1) (drop m words)
-read_more array words m i h g e =
-    rw (add-one i) (
-    take-suc-set array i (get_or words (m + i) 0) h
-    ∙ ap (λ (l : List ℕ). l ++ (get_or words (m + i) 0 ∷ [])) e
-    ∙ ap (λ (w : ℕ). take i (drop m words) ++ (w ∷ [])) (sym (get_or-drop m words i 0))
-    ∙ sym (take-suc (drop m words) i 0 (simp length-drop (omega arith)))
-    )
-
-pub read_all : (array words : List ℕ) (k i : ℕ) → i ≤ slots → slots ≤ i → length array ≡ slots → take i array ≡ take i (drop (array_at k) words) → array ≡ array_in k words
-read_all array words k i h g l e =
-    let n : i ≡ slots = omega arith in
-    sym (take_all slots array (omega arith)) ∙ rw n at e
 
 part_of_front : (n m : ℕ) (l : List ℕ) → take n (drop m l) ≡ drop m (take (m + n) l)
 part_of_front n zero l = ap (λ (k : ℕ). take k l) (sym (zero-add n))

@@ -6,9 +6,20 @@ use Rattle.machine.specs.Calls.{value, refused, idle, applied, sound, broken, te
 use Rattle.machine.specs.Answers.{LengthAnswer}
 use Rattle.machine.specs.Answers.{TellsLength}
 use Rattle.c_layout.specs.declared.Reply.{Reply}
+use Rattle.c_layout.specs.declared.Tag.{Tag}
 
 abbrev pub reply : ℕ → ℕ → ℕ → Reply
 reply tag number count = record { tag = tag; number = number; count = count }
+
+-- the number of a tag
+abbrev pub tag_number : Tag → ℕ
+tag_number Tag.Value = 1
+tag_number Tag.Refused = 2
+tag_number Tag.Idle = 3
+tag_number Tag.Applied = 4
+tag_number Tag.Sound = 5
+tag_number Tag.Broken = 6
+tag_number Tag.Text = 7
 
 abbrev pub told : machine.Reply → Reply
 told (value w) = reply 1 w 0

@@ -12,51 +12,37 @@ const PLACE: usize = 256;
 const COUNT: usize = 257;
 
 fn array_in(words: &[u16; QUEUE_WORDS], k: usize) -> [u16; 64]
-    requires { (k < 4) × (length words.now ≡ queue_words) }
+    requires { k < 4 }
     ensures { result ≡ array_in k words.now }
 {
     let mut array = [0; 64];
-    let mut i = 0;
-    while i < 64 {
-        array[i] = words[64 * k + i];
-        i += 1;
-    }
+    array.copy_from_slice(&words[64 * k..64 * (k + 1)]);
     array
 }
 
 fn put_array(words: &mut [u16; QUEUE_WORDS], k: usize, array: &[u16; 64])
-    requires { (k < 4) × (length words.old ≡ queue_words) × (length array.now ≡ slots) }
+    requires { k < 4 }
     ensures { ArrayPut words.old k array.now words.new }
 {
-    let mut i = 0;
-    while i < 64 {
-        words[64 * k + i] = array[i];
-        i += 1;
-    }
+    words[64 * k..64 * (k + 1)].copy_from_slice(array);
 }
 
 pub fn load(words: [u16; QUEUE_WORDS]) -> Queue
     ensures { result ≡ queue_in words }
 {
-    let kinds = array_in(&words, 0);
-    let a = array_in(&words, 1);
-    let b = array_in(&words, 2);
-    let c = array_in(&words, 3);
     Queue {
-        kinds: kinds,
-        a: a,
-        b: b,
-        c: c,
+        kinds: array_in(&words, 0),
+        a: array_in(&words, 1),
+        b: array_in(&words, 2),
+        c: array_in(&words, 3),
         place: words[PLACE],
         count: words[COUNT],
     }
 }
 
-// Zeros first, since nothing else says how many words lie behind a reference; the compiler leaves them out.
 pub fn save(words: &mut [u16; QUEUE_WORDS], queue: Queue)
     ensures { queue_in words.new ≡ queue }
 {
-    *words = [0; QUEUE_WORDS];
     put_array(words, 0, &queue.kinds);
     put_array(words, 1, &queue.a);
     put_array(words, 2, &queue.b);

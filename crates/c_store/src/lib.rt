@@ -13,28 +13,21 @@ use c_layout::{Reply, audit_told, fresh_told, length_told, row_told, step_told};
 use machine::RowCall;
 
 // Any row call: its queue is loaded, the call made, the queue saved.
+// Kept: (d) these three lines stand four times: over a closure each would name table, queue and scratch, `done.queue` and the reply once more.
 fn called(table: &mut [u16], queue: &mut [u16; QUEUE_WORDS], call: RowCall) -> Reply
     ensures { PromiseTold (store table.old (queue_in queue.old) []) (row (call_of call)) result (store table.new (queue_in queue.new) []) }
 {
-    let words = *queue;
-    let before = load(words);
-    let done = store::row(table, before, call);
-    let appended = done.queue;
-    save(queue, appended);
-    let answer = done.answer;
-    row_told(answer)
+    let appended = store::row(table, load(*queue), call);
+    save(queue, appended.queue);
+    row_told(appended.answer)
 }
 
 pub fn row_fresh(table: &mut [u16], queue: &mut [u16; QUEUE_WORDS], c: u16) -> Reply
     ensures { PromiseTold (store table.old (queue_in queue.old) []) (fresh c) result (store table.new (queue_in queue.new) []) }
 {
-    let words = *queue;
-    let before = load(words);
-    let done = store::fresh(table, before, c);
-    let empty = done.queue;
-    save(queue, empty);
-    let answer = done.answer;
-    fresh_told(answer)
+    let begun = store::fresh(table, load(*queue), c);
+    save(queue, begun.queue);
+    fresh_told(begun.answer)
 }
 
 pub fn row_car(table: &mut [u16], queue: &mut [u16; QUEUE_WORDS], x: u16) -> Reply
@@ -82,33 +75,24 @@ pub fn row_down(table: &mut [u16], queue: &mut [u16; QUEUE_WORDS], x: u16, n: u1
 pub fn row_step(table: &mut [u16], queue: &mut [u16; QUEUE_WORDS], scratch: &mut [u16]) -> Reply
     ensures { PromiseTold (store table.old (queue_in queue.old) scratch.old) step result (store table.new (queue_in queue.new) scratch.new) }
 {
-    let words = *queue;
-    let before = load(words);
-    let done = store::step(table, before, scratch);
-    let taken = done.queue;
-    save(queue, taken);
-    let answer = done.answer;
-    step_told(answer)
+    let stepped = store::step(table, load(*queue), scratch);
+    save(queue, stepped.queue);
+    step_told(stepped.answer)
 }
 
 // Table and queue are lent for reading: neither can change.
 pub fn row_audit(table: &[u16], queue: &[u16; QUEUE_WORDS], scratch: &mut [u16]) -> Reply
     ensures { PromiseTold (store table.now (queue_in queue.now) scratch.old) audit result (store table.now (queue_in queue.now) scratch.new) }
 {
-    let words = *queue;
-    audit_told(store::audit(table, load(words), scratch))
+    audit_told(store::audit(table, load(*queue), scratch))
 }
 
 pub fn row_read_text(table: &mut [u16], queue: &mut [u16; QUEUE_WORDS], text: &[u8]) -> Reply
     ensures { PromiseTold (store table.old (queue_in queue.old) []) (read text.now) result (store table.new (queue_in queue.new) []) }
 {
-    let words = *queue;
-    let before = load(words);
-    let done = store::read_text(table, before, text);
-    let filled = done.queue;
-    save(queue, filled);
-    let answer = done.answer;
-    row_told(answer)
+    let filled = store::read_text(table, load(*queue), text);
+    save(queue, filled.queue);
+    row_told(filled.answer)
 }
 
 pub fn row_write_text(
@@ -119,6 +103,5 @@ pub fn row_write_text(
 ) -> Reply
     ensures { TextTold (store table.now (queue_in queue.now) []) word buffer.old buffer.new result }
 {
-    let words = *queue;
-    length_told(store::put_text(table, load(words), word, buffer))
+    length_told(store::put_text(table, load(*queue), word, buffer))
 }

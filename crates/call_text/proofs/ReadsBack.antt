@@ -3,8 +3,8 @@ use mathlib.Core.Path.{◌≡◌, refl, sym, ◌∙◌}
 use mathlib.Core.List.{List, [], ◌∷◌, ◌++◌}
 use Prim.Native.Nat.{ℕ, ◌≤◌}
 use native.Mathlib.Omega.{arith}
-use Rattle.base_ten.specs.declared.Number.{Number}
-use Rattle.base_ten.specs.Bytes.{ascii, space, same_bytes, split, words_of}
+use Rattle.std.specs.Prelude.{Some}
+use Rattle.base_ten.specs.Bytes.{ascii, space, split, words_of}
 use Rattle.base_ten.specs.Numbers.{number_of}
 use Rattle.base_ten.specs.Decimal.{most_digits, decimal}
 use Rattle.base_ten.proofs.WordLaws.{split_all}
@@ -21,7 +21,7 @@ use Rattle.call_text.proofs.TextLaws.{call_length, digits_free, split_word}
 decimal_alone : (n : ℕ) → words_of (decimal n) ≡ decimal n ∷ []
 decimal_alone n = split_all space (decimal n) (digits_free space most_digits n (omega arith))
 
-operand_read : (n : ℕ) → n ≤ most_operand → number_of most_operand (decimal n) ≡ Number.Value n
+operand_read : (n : ℕ) → n ≤ most_operand → number_of most_operand (decimal n) ≡ Some n
 operand_read n h = decimal_read most_operand n h (omega arith)
 
 reads_one : (k : List ℕ) (x : ℕ) → x ≤ most_operand → by_words (k ∷ words_of (decimal x)) ≡ with_one k x
@@ -34,8 +34,8 @@ reads_two k x y h g =
     rw (split_word space ([] ∷ []) (decimal x) (decimal y) (digits_free space most_digits x (omega arith)), decimal_alone y, operand_read x h, operand_read y g)
 
 -- keyword by keyword
-row_back : (call : RowCall) → RowWords call → by_words (words_of (row_text call)) ≡ Request.Row call
-unfolding row_text split same_bytes with_one with_two
+row_back : (call : RowCall) → RowWords call → by_words (words_of (row_text call)) ≡ Some (Request.Row call)
+unfolding row_text split with_one with_two
 row_back (RowCall.Car x) h = reads_one (ascii "car") x h
 row_back (RowCall.Cdr x) h = reads_one (ascii "cdr") x h
 row_back (RowCall.Cons x y) h = reads_two (ascii "cons") x y h.0 h.1
@@ -44,12 +44,11 @@ row_back (RowCall.SetRight x y) h = reads_two (ascii "setr") x y h.0 h.1
 row_back (RowCall.Up x n) h = reads_two (ascii "up") x n h.0 h.1
 row_back (RowCall.Down x n) h = reads_two (ascii "down") x n h.0 h.1
 
-words_back : (request : Request) → Words request → by_words (words_of (call_text request)) ≡ request
-unfolding call_text split same_bytes with_none with_one by_words
+words_back : (request : Request) → Words request → by_words (words_of (call_text request)) ≡ Some request
+unfolding call_text split with_none with_one by_words
 words_back (Request.Fresh c) h = reads_one (ascii "fresh") c h
 words_back (Request.Row call) h = row_back call h
 words_back Request.Step h = refl
-words_back Request.Bad h = refl
 
 pub reads_back : ReadsBack
 reads_back request h = sym (line_short (call_text request) (omega (arith, call_length request))) ∙ words_back request h

@@ -36,7 +36,6 @@ unfolding call_text
 call_length (Request.Fresh c) = one_length (ascii "fresh ") c (omega arith)
 call_length (Request.Row call) = row_length call
 call_length Request.Step = omega arith
-call_length Request.Bad = omega arith
 
 pub line_length : (request : Request) → length (call_line request) ≤ line_room
 unfolding call_line

@@ -22,12 +22,10 @@ row_text (RowCall.SetRight x y) = two_text (ascii "setr ") x y
 row_text (RowCall.Up x n) = two_text (ascii "up ") x n
 row_text (RowCall.Down x n) = two_text (ascii "down ") x n
 
--- what is no call is an empty line, which the session program does not know either
 unfoldable pub call_text : Request → List ℕ
 call_text (Request.Fresh c) = one_text (ascii "fresh ") c
 call_text (Request.Row call) = row_text call
 call_text Request.Step = ascii "step"
-call_text Request.Bad = []
 
 -- the line with its line feed
 unfoldable pub call_line : Request → List ℕ

@@ -1,5 +1,5 @@
 -- The line of a call is read as that call. The proof is `reads_back` in proofs/ReadsBack.
-use Rattle.std.specs.Prelude.{◌≡◌, ◌≤◌}
+use Rattle.std.specs.Prelude.{◌≡◌, ◌≤◌, Some}
 use Rattle.machine.specs.declared.RowCall.{RowCall}
 use Rattle.line_text.specs.declared.Request.{Request}
 use Rattle.line_text.specs.Requests.{most_operand, request_of}
@@ -19,7 +19,6 @@ abbrev pub Words : Request → Type 0
 Words (Request.Fresh c) = c ≤ most_operand
 Words (Request.Row call) = RowWords call
 Words Request.Step = Unit {0}
-Words Request.Bad = Unit {0}
 
 abbrev pub ReadsBack : Type 0
-ReadsBack = (request : Request) → Words request → request_of (call_text request) ≡ request
+ReadsBack = (request : Request) → Words request → request_of (call_text request) ≡ Some request

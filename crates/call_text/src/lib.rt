@@ -24,6 +24,7 @@ fn put_two(out: &mut [u8], at: usize, word: &[u8], x: u16, y: u16) -> usize
     put_counted(out, end, b" ", y)
 }
 
+#[tactic(auto, unfolding(crate::specs::CallText::row_text))]
 fn put_row(out: &mut [u8], at: usize, call: RowCall) -> usize
     requires { at + call_room ≤ length out.old }
     ensures { Put out.old at (row_text call) out.new result }
@@ -39,6 +40,7 @@ fn put_row(out: &mut [u8], at: usize, call: RowCall) -> usize
     }
 }
 
+#[tactic(auto, unfolding(crate::specs::CallText::call_text))]
 fn put_call(out: &mut [u8], at: usize, request: Request) -> usize
     requires { at + call_room ≤ length out.old }
     ensures { Put out.old at (call_text request) out.new result }
@@ -47,7 +49,6 @@ fn put_call(out: &mut [u8], at: usize, request: Request) -> usize
         Request::Fresh(c) => put_counted(out, at, b"fresh ", c),
         Request::Row(call) => put_row(out, at, call),
         Request::Step => put_word(out, at, b"step"),
-        Request::Bad => at,
     }
 }
 

@@ -10,7 +10,6 @@ use lib.Dec.{leb, eqb}
 use lib.ListN.{length, set}
 use borrow.Author.Tests.{eq-eqb, ne_eqb, leb-true}
 use Rattle.machine.specs.declared.Queue.{Queue}
-use Rattle.machine.specs.Answers.{FreshAnswer}
 use Rattle.machine.specs.declared.Refusal.{Refusal}
 use Rattle.machine.specs.Words.{most_cells}
 use Rattle.machine.specs.Table.{free_cell, table_length, put_ends, put_cell}

@@ -1,26 +1,20 @@
 -- A call's packet, what the code reads of it, and the cells of a table: no question is asked here.
 use mathlib.Core.Path.{◌≡◌, refl, sym, ap, ◌∙◌}
-use mathlib.Core.Logic.{inl, inr, ⊎_elim}
-use mathlib.Core.Bool.{Bool, true, false, cond}
+use mathlib.Core.Bool.{true, false}
 use mathlib.Core.List.{List}
 use Prim.Native.Nat.{ℕ, suc, ◌-◌, ◌≤◌}
 use native.Mathlib.Omega.{arith}
-use lib.Dec.{eqb}
 use lib.ListN.{length}
-use borrow.Author.Tests.{eqb-true, eqb-false, ne_eqb}
 use Rattle.machine.specs.Words.{is_cell}
 use Rattle.machine.specs.Table.{left, right, capacity, table_length, word_at}
-use Rattle.machine.specs.Packets.{raises, lowers, unknown, kind_of}
+use Rattle.machine.specs.Packets.{kind_of}
 use Rattle.machine.specs.Facts.{TableShape}
 use Rattle.machine.specs.Calls.{RowCall, car, cdr, cons, set_left, set_right, up, down, field, packet_of, reads_nil, value_of}
 use Rattle.machine.specs.declared.RowCall as declared
 use Rattle.machine.specs.Answers.{call_of}
-use Rattle.machine.proofs.Range.{tested}
 use Rattle.machine.proofs.Words.{cell_index, cell_number_lem}
 use Rattle.machine.proofs.NilReads.{word_read_lem}
-use Rattle.queue.proofs.Totals.{kind_unknown}
-use Rattle.calls.specs.Early.{Replaces}
-use Rattle.calls.specs.Packets.{operands_of, Operands, value_by}
+use Rattle.calls.specs.Packets.{Operands, value_by}
 use Rattle.calls.specs.Writes.{InTable}
 
 -- a cell is one of the table's, as the code finds it
@@ -41,26 +35,6 @@ read_back t x k w e = e ∙ ap (λ (i : ℕ). word_at t i k) (omega arith)
 -- the operands of a call that is known
 pub operand : (t : List ℕ) (call r : declared.RowCall) → call ≡ r → Operands t (packet_of t (call_of call)) → Operands t (packet_of t (call_of r))
 operand t call r e h = rw e at h
-
--- among the kinds that a call has, the last ones left are the replaces'
-pub replaces_left : (t : List ℕ) (n a b c : ℕ) → operands_of (kind_of n) t a b c → (n ≡ 1 → ⊥) → (n ≡ 2 → ⊥) → (n ≡ 4 → ⊥) → (n ≡ 5 → ⊥) → Replaces n
-replaces_left t n a b c h d1 d2 d4 d5 = ⊎_elim (λ e. inl (eqb-true n 3 e)) (λ e. other (eqb-false n 3 e)) (tested (eqb n 3))
-  where
-    none : operands_of unknown t a b c → Replaces n
-    none z = absurd z
-
-    other : (n ≡ 3 → ⊥) → Replaces n
-    other d3 =
-        ⊎_elim (λ e. inr (eqb-true n 6 e)) (λ e. none (rw (kind_unknown n d1 d2 d3 d4 d5 (eqb-false n 6 e)) at h)) (tested (eqb n 6))
-
-pub value_none : (n b c : ℕ) → (n ≡ 1 → ⊥) → (n ≡ 2 → ⊥) → (n ≡ 3 → ⊥) → (n ≡ 6 → ⊥) → 0 ≡ value_by (kind_of n) b c
-unfolding kind_of
-value_none n b c d1 d2 d3 d6 = simp (ne_eqb n 1 d1, ne_eqb n 2 d2, ne_eqb n 3 d3, ne_eqb n 6 d6) (go (eqb n 4) (eqb n 5))
-  where
-    go : (e f : Bool) → 0 ≡ value_by (cond e raises (cond f lowers unknown)) b c
-    go true f = refl
-    go false true = refl
-    go false false = refl
 
 -- the value replied, by the packet
 pub packet_value : (t : List ℕ) (r : RowCall) → reads_nil r ≡ false → let p = packet_of t r in value_by (kind_of p.kind) p.b p.c ≡ value_of t r

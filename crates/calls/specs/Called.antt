@@ -1,8 +1,7 @@
 -- What a row call and a fresh give, for any table, queue and numbers: refused with nothing changed, or done as the machine does it, in name counts of
 -- 16 bits.
-use Rattle.std.specs.Prelude.{Ok, Err, ◌≡◌, true, false, List, [], ◌∷◌, ℕ}
+use Rattle.std.specs.Prelude.{◌≡◌, true, false, List, [], ◌∷◌, ℕ}
 use Rattle.machine.specs.declared.Queue.{Queue}
-use Rattle.machine.specs.Answers.{Asked}
 use Rattle.machine.specs.Answers.{RowAnswer}
 use Rattle.machine.specs.Answers.{FreshAnswer}
 use Rattle.machine.specs.Queue.{Packet, appended_all}

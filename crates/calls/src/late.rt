@@ -12,7 +12,7 @@ ghost use Rattle.calls.specs.Tests.{LateAnswer};
 use crate::operands::tally_of;
 use crate::tests::{cons_tests, down_tests, read_tests, replace_tests, up_tests};
 use machine::{Asked, Queue};
-use queue::Packet;
+use queue::{Kind, Packet};
 
 // Of a read of x that gives w.
 fn read_late(table: &[u16], queue: &Queue, x: u16, w: u16) -> Asked
@@ -49,12 +49,13 @@ pub fn late_asked(table: &[u16], queue: &Queue, p: Packet) -> Asked
     requires { Shape table.now queue.now × Operands table.now (packet_of p) }
     ensures { LateAnswer table.now queue.now (packet_of p) result }
 {
-    let kind = p.kind;
-    match kind {
-        Packet::READ => read_late(table, queue, p.a, p.b),
-        Packet::CONS => cons_late(table, queue, p.a, p.b),
-        Packet::UP => up_tests(queue, tally_of(table, queue, p.a), p.b),
-        Packet::DOWN => down_tests(queue, tally_of(table, queue, p.a), p.b),
-        _ => replace_late(table, queue, p.a, p.b, p.c),
+    match p.known_kind() {
+        Some(Kind::Read) => read_late(table, queue, p.a, p.b),
+        Some(Kind::Cons) => cons_late(table, queue, p.a, p.b),
+        Some(Kind::Up) => up_tests(queue, tally_of(table, queue, p.a), p.b),
+        Some(Kind::Down) => down_tests(queue, tally_of(table, queue, p.a), p.b),
+        Some(Kind::ReplaceLeft) => replace_late(table, queue, p.a, p.b, p.c),
+        Some(Kind::ReplaceRight) => replace_late(table, queue, p.a, p.b, p.c),
+        None => unreachable!(),
     }
 }

@@ -123,7 +123,7 @@ fn queue_and_write(table: &mut [u16], queue: Queue, call: RowCall, packet: Packe
     let answer = reply.answer;
     if let Ok(_) = answer {
         write(table, call);
-        name_packet(table, packet.kind, packet.a, packet.b, packet.c);
+        name_packet(table, packet);
     }
     reply
 }

@@ -19,9 +19,7 @@ pub fn tally_of(table: &[u16], queue: &Queue, w: u16) -> Sums
             pointers: CounterSums::new(0, 0),
         };
     };
-    let place = queue.place;
-    let count = queue.count;
-    let s = queue::waiting_changes(&queue.kinds, &queue.a, &queue.b, place, count, w);
+    let s = queue::waiting_changes(queue, queue.count, w);
     Sums {
         held: s.held.with(cells::count(table, index)),
         pointers: s.pointers.with(cells::count(table, index)),

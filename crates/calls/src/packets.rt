@@ -8,10 +8,11 @@ ghost use Rattle.machine.specs.Facts.{TableShape};
 ghost use Rattle.machine.specs.Calls.{field, packet_of};
 ghost use Rattle.machine.specs.Answers.{call_of};
 ghost use Rattle.queue.specs.Sums as sums;
+ghost use Rattle.queue.specs.Kinds.{kind_number};
 ghost use Rattle.calls.specs.Packets.{Operands, value_by};
 
 use machine::RowCall;
-use queue::Packet;
+use queue::{Kind, Packet};
 
 // Field k of the cell x.
 fn field_of(table: &[u16], x: u16, k: usize) -> u16
@@ -21,14 +22,14 @@ fn field_of(table: &[u16], x: u16, k: usize) -> u16
     cells::field(table, (x as usize) - 1, k)
 }
 
-fn packet(kind: u16, a: u16, b: u16, c: u16) -> Packet
-    ensures { sums.packet_of result ≡ packet kind a b c }
+fn packet(kind: Kind, a: u16, b: u16, c: u16) -> Packet
+    ensures { sums.packet_of result ≡ packet (kind_number kind) a b c }
 {
     Packet {
-        kind: kind,
-        a: a,
-        b: b,
-        c: c,
+        kind: kind.number(),
+        a,
+        b,
+        c,
     }
 }
 
@@ -38,34 +39,34 @@ pub fn packet_of(table: &[u16], call: RowCall) -> Packet
     ensures { sums.packet_of result ≡ packet_of table.now (call_of call) }
 {
     match call {
-        RowCall::Car(x) => packet(Packet::READ, x, field_of(table, x, cells::LEFT), 0),
-        RowCall::Cdr(x) => packet(Packet::READ, x, field_of(table, x, cells::RIGHT), 0),
-        RowCall::Cons(x, y) => packet(Packet::CONS, x, y, cells::first_free(table)),
+        RowCall::Car(x) => packet(Kind::Read, x, field_of(table, x, cells::LEFT), 0),
+        RowCall::Cdr(x) => packet(Kind::Read, x, field_of(table, x, cells::RIGHT), 0),
+        RowCall::Cons(x, y) => packet(Kind::Cons, x, y, cells::first_free(table)),
         RowCall::SetLeft(x, y) => packet(
-            Packet::REPLACE_LEFT,
+            Kind::ReplaceLeft,
             y,
             field_of(table, x, cells::LEFT),
             x,
         ),
         RowCall::SetRight(x, y) => packet(
-            Packet::REPLACE_RIGHT,
+            Kind::ReplaceRight,
             y,
             field_of(table, x, cells::RIGHT),
             x,
         ),
-        RowCall::Up(x, n) => packet(Packet::UP, x, n, 0),
-        RowCall::Down(x, n) => packet(Packet::DOWN, x, n, 0),
+        RowCall::Up(x, n) => packet(Kind::Up, x, n, 0),
+        RowCall::Down(x, n) => packet(Kind::Down, x, n, 0),
     }
 }
 
+#[tactic(auto, unfolding(crate::specs::Packets::value_by))]
 // What an accepted call replies: the word read, the new cell, the word detached, else 0.
 pub fn value_of(p: Packet) -> u16
     ensures { result ≡ value_by (kind_of p.kind) p.b p.c }
 {
-    let kind = p.kind;
-    match kind {
-        Packet::READ | Packet::REPLACE_LEFT | Packet::REPLACE_RIGHT => p.b,
-        Packet::CONS => p.c,
+    match p.known_kind() {
+        Some(Kind::Read | Kind::ReplaceLeft | Kind::ReplaceRight) => p.b,
+        Some(Kind::Cons) => p.c,
         _ => 0,
     }
 }

@@ -5,7 +5,8 @@
 mod part;
 
 ghost use Rattle.std.specs.Prelude.{◌≡◌, suc, ◌≤◌, length, set};
-ghost use Rattle.machine.specs.Table.{header, right, root_count, cell_count, state, name_count, new_cell, free_cell, capacity, first_free, last_free, table_length, scratch_words, word_at, put_word, put_ends, put_cell, in_use};
+ghost use Rattle.machine.specs.Table.{header, right, state, new_cell, free_cell, capacity, first_free, last_free, table_length};
+ghost use Rattle.machine.specs.Table.{scratch_words, word_at, put_word, put_ends, put_cell, in_use};
 ghost use Rattle.machine.specs.Step.{counter_word};
 
 use machine::{CellCount, Counter, NameCount, RootCount};
@@ -78,34 +79,6 @@ pub fn set_count<K: Counter>(table: &mut [u16], index: usize, n: K)
     part::set_count(&mut table[HEADER..], index, n);
 }
 
-pub fn root_count(table: &[u16], index: usize) -> RootCount
-    requires { table_length (suc index) ≤ length table.now }
-    ensures { result.0 ≡ word_at table.now index root_count }
-{
-    count(table, index)
-}
-
-pub fn set_root_count(table: &mut [u16], index: usize, n: RootCount)
-    requires { table_length (suc index) ≤ length table.old }
-    ensures { table.new ≡ put_word table.old index root_count n.0 }
-{
-    set_count(table, index, n);
-}
-
-pub fn cell_count(table: &[u16], index: usize) -> CellCount
-    requires { table_length (suc index) ≤ length table.now }
-    ensures { result.0 ≡ word_at table.now index cell_count }
-{
-    count(table, index)
-}
-
-pub fn set_cell_count(table: &mut [u16], index: usize, n: CellCount)
-    requires { table_length (suc index) ≤ length table.old }
-    ensures { table.new ≡ put_word table.old index cell_count n.0 }
-{
-    set_count(table, index, n);
-}
-
 // The state's word itself; `in_use` asks only whether it is above 0.
 pub fn state_word(table: &[u16], index: usize) -> u16
     requires { table_length (suc index) ≤ length table.now }
@@ -119,20 +92,6 @@ fn set_state(table: &mut [u16], index: usize, v: u16)
     ensures { table.new ≡ put_word table.old index state v }
 {
     part::set_state(&mut table[HEADER..], index, v);
-}
-
-pub fn name_count(table: &[u16], index: usize) -> NameCount
-    requires { table_length (suc index) ≤ length table.now }
-    ensures { result.0 ≡ word_at table.now index name_count }
-{
-    count(table, index)
-}
-
-pub fn set_name_count(table: &mut [u16], index: usize, n: NameCount)
-    requires { table_length (suc index) ≤ length table.old }
-    ensures { table.new ≡ put_word table.old index name_count n.0 }
-{
-    set_count(table, index, n);
 }
 
 #[tactic(auto, unfolding(machine::specs::Table::in_use))]

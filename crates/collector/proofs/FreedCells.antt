@@ -3,12 +3,15 @@ use mathlib.Core.Path.{◌≡◌, refl, sym, ap, ◌∙◌}
 use mathlib.Core.Logic.{⊎_elim}
 use mathlib.Core.Bool.{Bool, true, false, cond}
 use mathlib.Core.List.{List, [], ◌∷◌, ◌++◌}
-use Prim.Native.Nat.{ℕ, suc, ◌+◌, ◌≤◌, ◌<◌}
+use Prim.Native.Nat.{ℕ, suc, ◌+◌, ◌-◌, ◌≤◌, ◌<◌}
 use native.Mathlib.Omega.{arith}
 use native.Mathlib.Numerals.{add-one}
 use lib.Dec.{eqb}
 use lib.ListN.{length, get_or, take, drop}
 use lib.Seq.{take-suc, split_at, take_all}
+use Rattle.std.proofs.Common.{reverse}
+use Rattle.std.proofs.lemmas.List.{get_or-reverse, length-reverse}
+use Rattle.std.proofs.lemmas.Grind.{get_or_default_zero}
 use borrow.Author.Tests.{eq-eqb, ne_eqb}
 use Rattle.machine.specs.Table.{left, right, free_cell, capacity, first_free, last_free, word_at, put_ends, put_cell}
 use Rattle.machine.specs.Packets.{cell, minus, contains}
@@ -93,6 +96,16 @@ module _ (t : List ℕ) (i : ℕ) (u : List ℕ) (e : u ≡ lower_pointers t (i 
   pub free_is : (v : List ℕ) → v ≡ join u i → v ≡ swept t (i ∷ [])
   free_is v f = f ∙ rw e (unfold swept join_all in refl)
 
+-- the list gone through from its end: the word that comes after k others
+module _ (dead : List ℕ) (k x : ℕ) (h : (k < length (reverse dead)) × (x ≡ get_or (reverse dead) k x)) where
+  pub left_over : k < length dead
+  left_over = omega (arith, h.0, length-reverse dead)
+
+  pub turned : (j : ℕ) → j + 1 + k ≡ length dead → x ≡ get_or dead j 0
+  turned j e =
+      let i : length dead - 1 - k ≡ j = omega arith in
+      h.1 ∙ get_or-reverse dead k x left_over ∙ ap (λ (n : ℕ). get_or dead n x) i ∙ get_or_default_zero dead j x (omega arith)
+
 -- Of the cells of the list, which are to be freed, the first i remain.
 pub record Remaining (c : ℕ) (t dead : List ℕ) (i : ℕ) (u : List ℕ) : Type 0 where
   pub good : Good c u
@@ -109,15 +122,15 @@ module _ (c : ℕ) (t dead : List ℕ) (k : Listed c dead) where
       front : Ascending (take j dead ++ get_or dead j 0 ∷ drop (suc j) dead)
       front = rw (split_at dead j 0 l) at k.ascending
 
-  module _ (u : List ℕ) (i j : ℕ) (s : i ≡ suc j) (l : j < length dead) (r : Remaining c t dead i u) where
-    pub at_cell : TableShape u × (get_or dead j 0 < capacity u)
-    at_cell = (r.good.shape, rw r.good.cells (k.below j l))
+  module _ (u : List ℕ) (i j : ℕ) (s : i ≡ suc j) (l : j < length dead) (r : Remaining c t dead i u) (x : ℕ) (o : x ≡ get_or dead j 0) where
+    pub at_cell : TableShape u × (x < capacity u)
+    at_cell = (r.good.shape, rw (o, r.good.cells) (k.below j l))
 
-    pub one_less : (v : List ℕ) → v ≡ swept u (get_or dead j 0 ∷ []) → Remaining c t dead j v
-    one_less v e = record {
+    pub one_less : (v : List ℕ) → v ≡ swept u (x ∷ []) → Remaining c t dead j v
+    one_less v f = let e = rw o at f in record {
       good = rw e (free_good c u r.good (get_or dead j 0) (k.below j l));
       table =
-          ap (λ (w : List ℕ). swept w (take j dead)) e ∙ sym (swept_last u (take j dead) (get_or dead j 0) r.good.shape.room at_cell.1 (once j l))
+          ap (λ (w : List ℕ). swept w (take j dead)) e ∙ sym (swept_last u (take j dead) (get_or dead j 0) r.good.shape.room (rw o at at_cell.1) (once j l))
           ∙ ap (swept u) (sym (take-suc dead j 0 l)) ∙ (rw s at r.table);
     }
 

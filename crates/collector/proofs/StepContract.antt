@@ -9,7 +9,6 @@ use native.Mathlib.Omega.{arith}
 use lib.ListN.{length}
 use Rattle.machine.specs.declared.Queue.{Queue}
 use Rattle.machine.specs.declared.Refusal.{Refusal}
-use Rattle.machine.specs.Answers.{StepAnswer}
 use Rattle.machine.specs.Table.{capacity, scratch_words}
 use Rattle.machine.specs.Queue.{Packet, packets_from, waiting, taken}
 use Rattle.machine.specs.Packets.{minus, changes}

@@ -50,7 +50,7 @@ pub(crate) fn free_all(table: &mut [u16], dead: &[u16])
     requires { TableShape table.old × Listed (capacity table.old) dead.now }
     ensures { table.new ≡ swept table.old dead.now }
 {
-    for i in (0..dead.len()).rev() {
-        free(table, dead[i]);
+    for &index in dead.iter().rev() {
+        free(table, index);
     }
 }

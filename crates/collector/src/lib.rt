@@ -58,9 +58,9 @@ fn apply_oldest(table: &mut [u16], oldest: Packet, scratch: &mut [u16]) -> u16
     ensures { Applies table.old (packet_of oldest) scratch.old table.new scratch.new result }
 {
     let capacity = cells::capacity_of(table);
-    let watched = watched_of(oldest.kind, oldest.a, oldest.b, oldest.c);
-    counts::apply(table, oldest.kind, oldest.a, oldest.b);
-    unname_packet(table, oldest.kind, oldest.a, oldest.b, oldest.c);
+    let watched = watched_of(oldest);
+    counts::apply(table, oldest);
+    unname_packet(table, oldest);
     if stays_root(table, watched) {
         marks::clear(scratch, capacity);
         return 0;
@@ -72,31 +72,33 @@ fn apply_oldest(table: &mut [u16], oldest: Packet, scratch: &mut [u16]) -> u16
 pub fn step(table: &mut [u16], queue: Queue, scratch: &mut [u16]) -> Stepped
     ensures { Steps table.old queue scratch.old result table.new scratch.new }
 {
-    let asked = questions::lent(table, &queue, scratch);
-    let mut rest = queue;
-    let mut answer = Ok(Step::Idle);
-    match asked {
-        Err(refusal) => answer = Err(refusal),
-        Ok(()) => {
-            if 0 < rest.count {
-                let j = rest.place as usize;
-                let kind = rest.kinds[j];
-                let a = rest.a[j];
-                let b = rest.b[j];
-                let c = rest.c[j];
-                rest.kinds[j] = 0;
-                rest.a[j] = 0;
-                rest.b[j] = 0;
-                rest.c[j] = 0;
-                rest.place = (rest.place + 1) % Queue::SLOTS;
-                rest.count -= 1;
-                let freed = apply_oldest(table, Packet { kind, a, b, c }, scratch);
-                answer = Ok(Step::Applied { kind, freed });
-            }
-        }
+    if let Err(refusal) = questions::lent(table, &queue, scratch) {
+        return Stepped {
+            answer: Err(refusal),
+            queue,
+        };
     }
+    if queue.count == 0 {
+        return Stepped {
+            answer: Ok(Step::Idle),
+            queue,
+        };
+    }
+    let mut rest = queue;
+    let j = rest.place as usize;
+    let kind = rest.kinds[j];
+    let a = rest.a[j];
+    let b = rest.b[j];
+    let c = rest.c[j];
+    rest.kinds[j] = 0;
+    rest.a[j] = 0;
+    rest.b[j] = 0;
+    rest.c[j] = 0;
+    rest.place = (rest.place + 1) % Queue::SLOTS;
+    rest.count -= 1;
+    let freed = apply_oldest(table, Packet { kind, a, b, c }, scratch);
     Stepped {
-        answer,
+        answer: Ok(Step::Applied { kind, freed }),
         queue: rest,
     }
 }

@@ -1,4 +1,5 @@
-// Changes of the counters in the table's cells, of 16 bits each: a packet's count changes, and the names that it gives and gives up. Figure 8's rrc_up, rrc_down, crc_up and crc_down, by n at once, are made where the word is a cell: nil and atoms have no counts.
+// Changes of the counters in the table's cells, of 16 bits each: a packet's count changes, and the names that it gives and gives up. Figure 8's
+// rrc_up, rrc_down, crc_up and crc_down, by n at once, are made where the word is a cell: nil and atoms have no counts.
 #![tactic(auto)]
 
 pub mod names;
@@ -11,7 +12,7 @@ ghost use Rattle.counts.specs.Cells.{IndexOf};
 
 use machine::{CellCount, Counter, RootCount};
 use questions::is_cell;
-use queue::Kind;
+use queue::{Kind, Packet};
 
 // Where the cell that a word names stands in the table, if it names one.
 pub fn cell_index(table: &[u16], w: u16) -> Option<usize>
@@ -25,6 +26,7 @@ pub fn cell_index(table: &[u16], w: u16) -> Option<usize>
     }
 }
 
+// One counter of the cell that w names, of the sort that K is, raised or lowered by n.
 pub fn up<K: Counter>(table: &mut [u16], w: u16, n: u16)
     requires { table_length (capacity table.old) ≤ length table.old }
     ensures { Moves table.old K.sort w plus n table.new }
@@ -45,15 +47,16 @@ pub fn down<K: Counter>(table: &mut [u16], w: u16, n: u16)
     }
 }
 
-// The changes of a packet of this kind with the words a and b, in figure 8's order; its x is a, its y is b.
+// The packet's changes, in figure 8's order; its x is a, its y is b.
 #[tactic(auto, unfolding(machine::specs::Packets::changes_of, crate::specs::Changes::apply_fitting))]
-pub fn apply(table: &mut [u16], kind: u16, a: u16, b: u16)
+pub fn apply(table: &mut [u16], packet: Packet)
     requires { table_length (capacity table.old) ≤ length table.old }
-    ensures { table.new ≡ apply_fitting table.old (changes_of (kind_of kind) a b) }
+    ensures { table.new ≡ apply_fitting table.old (changes_of (kind_of packet.kind) packet.a packet.b) }
 {
-    let Some(kind) = Kind::of(kind) else {
+    let Some(kind) = packet.known_kind() else {
         return;
     };
+    let Packet { a, b, .. } = packet;
     match kind {
         // P1
         Kind::Read => {

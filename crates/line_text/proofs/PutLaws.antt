@@ -15,7 +15,7 @@ use Rattle.base_ten.specs.Put.{Put}
 use Rattle.base_ten.proofs.PutLaws.{digits_one, digits_more, digits_length, digits_some}
 use Rattle.line_text.specs.declared.Verdict.{Verdict}
 use Rattle.line_text.specs.Texts.{verdict_room, verdict_text, room, output_line}
-use Rattle.line_text.specs.Put.{ShowsTens, CountsUp}
+use Rattle.line_text.specs.Put.{ShowsTens}
 
 pub verdict_length : (v : Verdict) → length (verdict_text v) ≤ verdict_room
 verdict_length (Verdict.Ok v) = omega (arith, digits_length most_digits v)
@@ -27,21 +27,6 @@ pub output_length : (n : ℕ) (v : Verdict) → length (output_line n v) ≤ roo
 unfolding output_line
 output_length n v =
     simp length-append (omega (arith, digits_length most_digits n, verdict_length v))
-
--- of the word only the front is meant
-pub word_front : (out new word : List ℕ) (at i n : ℕ) → at ≤ length out → n ≤ i → n ≤ length word → take (at + i) new ≡ take at out ++ take i word
-    → Put out at (take n word) new (at + n)
-word_front out new word at i n h l m e =
-    let size : length (take at out) ≡ at = length-take-le at out h in
-    record {
-      front =
-          sym (take-take (at + n) (at + i) new (omega arith))
-          ∙ ap (take (at + n)) e
-          ∙ ap (λ (k : ℕ). take (k + n) (take at out ++ take i word)) (sym size)
-          ∙ take-append-add (take at out) (take i word) n
-          ∙ ap (λ (l : List ℕ). take at out ++ l) (take-take n i word l);
-      ends = ap (λ (k : ℕ). at + k) (sym (length-take-le n word m));
-    }
 
 -- within a ten the digits before the last are the same
 pub record Ten (most a b : ℕ) : Type 0 where
@@ -82,18 +67,23 @@ module _ {text : List ℕ} {size number : ℕ} (shows : ShowsTens text size numb
   pub shows_most : size ≤ most_digits
   shows_most = omega (arith, shows.ends, digits_length most_digits shows.shown)
 
-  -- the text's digits copied, and the number's last digit behind its tens
-  pub number_put : (out new : List ℕ) (at i : ℕ) → at + most_digits ≤ length out → length new ≡ length out → most_digits ≤ i
-      → take (at + i) new ≡ take at out ++ take i text
+  -- the text copied, and the number's last digit written behind its tens
+  pub number_put : (out new : List ℕ) (at : ℕ) → at + most_digits ≤ length out → length new ≡ length out
+      → take (at + most_digits) new ≡ take at out ++ text
       → Put out at (decimal number) (set new (at + size - 1) (digit_zero + number % 10)) (at + size)
-  number_put out new at i room same all e =
+  number_put out new at room same copied =
       let one = digit_zero + shows.shown % 10 in
       let other = digit_zero + number % 10 in
       let t = ten most_digits shows.shown number (omega arith) shows.tens in
       let most : size ≤ most_digits = shows_most in
-      let copied = word_front out new text at i size (omega arith) (omega arith) (omega (arith, shows.whole)) e in
-      let digits = ap (λ (l : List ℕ). take at out ++ l) (shows.front ∙ t.one) in
-      let before = copied.front ∙ digits ∙ sym (append_assoc (take at out) t.tens (one ∷ [])) in
+      let place : length (take at out) ≡ at = length-take-le at out (omega arith) in
+      let before : take (at + size) new ≡ (take at out ++ t.tens) ++ (one ∷ []) =
+      sym (take-take (at + size) (at + most_digits) new (omega arith))
+      ∙ ap (take (at + size)) copied
+      ∙ ap (λ (k : ℕ). take (k + size) (take at out ++ text)) (sym place)
+      ∙ take-append-add (take at out) text size
+      ∙ ap (λ (l : List ℕ). take at out ++ l) (shows.front ∙ t.one)
+      ∙ sym (append_assoc (take at out) t.tens (one ∷ [])) in
       record {
         front =
             last_set new (take at out ++ t.tens) (at + size) one other (omega (arith, shows_some)) (omega arith) before
@@ -107,13 +97,3 @@ module _ {text : List ℕ} {size number : ℕ} (shows : ShowsTens text size numb
             ∙ sym (length-append t.tens (other ∷ []))
             ∙ sym (ap length t.other));
       }
-
--- a number that is written shows its own tens
-pub shows_put : {old new : List ℕ} {size number : ℕ} → Put old 0 (decimal number) new size → length new ≡ most_digits → ShowsTens new size number
-shows_put {number = number} put whole = record { whole = whole; shown = number; tens = refl; front = put.front; ends = omega (arith, put.ends) }
-
--- the tens are those of the number before
-pub counts_up : (text : List ℕ) (size number : ℕ) → (number % 10 ≡ 0 → ⊥) → CountsUp text size number text size
-counts_up text size number other last s low high =
-    let same : last / 10 ≡ number / 10 = omega arith in
-    record { whole = s.whole; shown = s.shown; tens = s.tens ∙ same; front = s.front; ends = s.ends }

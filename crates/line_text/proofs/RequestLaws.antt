@@ -1,79 +1,36 @@
 -- What each test of the parser tells of the request.
-use mathlib.Core.Path.{◌≡◌, refl, sym, ◌∙◌}
-use mathlib.Core.Bool.{Bool, true, false, cond}
-use mathlib.Core.List.{List, [], ◌∷◌}
-use Prim.Native.Nat.{ℕ, ◌+◌, ◌-◌, ◌≤◌, ◌<◌}
-use native.Mathlib.Numerals.{add-one}
-use native.Mathlib.Omega.{arith}
-use Prim.Native.String.{String}
-use lib.Dec.{eqb}
-use lib.ListN.{length, take, drop}
-use borrow.Author.Tests.{le-leb, lt-leb}
-use Rattle.base_ten.specs.declared.Number.{Number}
-use Rattle.base_ten.specs.Bytes.{ascii, same_bytes, before, on_first, split, words_of, space}
-use Rattle.base_ten.proofs.ByteLaws.{same_equal}
+use Rattle.std.proofs.Common.{◌≡◌, ◌==◌, ◌&&◌, ap, suc, ◌+◌, get_or, drop, drop_of_length-le, eq-eqb, ne_eqb, ℕ, ◌<◌, ◌≤◌, Bool, true, false, cond, eqb, List, [], ◌∷◌, Option, Some, None, length, refl, le-leb}
+use borrow.Author.Tests.{lt-leb}
+use Rattle.std.specs.Str.{bytes_eq}
+use Rattle.std.proofs.lemmas.Slice.Eq.{bytes_eq-Decides}
+use Rattle.base_ten.specs.Bytes.{ascii, before, SplitsAt, on_first, split, words_of, space}
+use Rattle.base_ten.proofs.ByteLaws.{drop_at}
 use Rattle.base_ten.proofs.WordLaws.{split_all, split_at}
-use Rattle.base_ten.proofs.KeepLaws.{last_part}
-use Rattle.machine.specs.declared.RowCall.{RowCall}
 use Rattle.line_text.specs.declared.Request.{Request}
-use Rattle.line_text.specs.Requests.{operand_of, with_none, with_one, with_two, if_one, if_both, by_words, request_of, most_bytes}
+use Rattle.line_text.specs.Requests.{operand_of, with_none, if_one, if_both, by_words, request_of, most_bytes}
 
-abbrev is : List ℕ → String → Type 0
-is k word = same_bytes k (ascii word) ≡ true
+-- the sameness of two runs, place by place
+pub same_lengths : (u v : List ℕ) → (length u ≡ length v → ⊥) → bytes_eq u v ≡ false
+same_lengths [] [] h = absurd (h refl)
+same_lengths [] (y ∷ v) h = refl
+same_lengths (x ∷ u) [] h = refl
+same_lengths (x ∷ u) (y ∷ v) h = rw (same_lengths u v (λ e. h (ap suc e))) (and-false (x == y))
+  where
+    and-false : (b : Bool) → (b && false) ≡ false
+    and-false true = refl
+    and-false false = refl
 
-abbrev isnt : List ℕ → String → Type 0
-isnt k word = same_bytes k (ascii word) ≡ false
+module _ (a b : List ℕ) (i : ℕ) where
+  pub same_step : i < length a → i < length b → get_or a i 0 ≡ get_or b i 0 → bytes_eq (drop i a) (drop i b) ≡ bytes_eq (drop (i + 1) a) (drop (i + 1) b)
+  same_step ha hb e =
+      rw (drop_at a i ha, drop_at b i hb) (ap (λ (t : Bool). t && bytes_eq (drop (i + 1) a) (drop (i + 1) b)) (eq-eqb (get_or a i 0) (get_or b i 0) e))
 
-module _ (k : List ℕ) (x : ℕ) where
-  pub one_fresh : is k "fresh" → Request.Fresh x ≡ with_one k x
-  unfolding with_one
-  one_fresh h₁ = rw (h₁)
+  pub same_differ : i < length a → i < length b → (get_or a i 0 ≡ get_or b i 0 → ⊥) → bytes_eq (drop i a) (drop i b) ≡ false
+  same_differ ha hb e =
+      rw (drop_at a i ha, drop_at b i hb) (ap (λ (t : Bool). t && bytes_eq (drop (i + 1) a) (drop (i + 1) b)) (ne_eqb (get_or a i 0) (get_or b i 0) e))
 
-  pub one_car : isnt k "fresh" → is k "car" → Request.Row (RowCall.Car x) ≡ with_one k x
-  unfolding with_one
-  one_car h₁ h₂ = rw (h₁, h₂)
-
-  pub one_cdr : isnt k "fresh" → isnt k "car" → is k "cdr" → Request.Row (RowCall.Cdr x) ≡ with_one k x
-  unfolding with_one
-  one_cdr h₁ h₂ h₃ = rw (h₁, h₂, h₃)
-
-  pub one_bad : isnt k "fresh" → isnt k "car" → isnt k "cdr" → Request.Bad ≡ with_one k x
-  unfolding with_one
-  one_bad h₁ h₂ h₃ = rw (h₁, h₂, h₃)
-
-module _ (k : List ℕ) (x y : ℕ) where
-  pub two_cons : is k "cons" → Request.Row (RowCall.Cons x y) ≡ with_two k x y
-  unfolding with_two
-  two_cons h₁ = rw (h₁)
-
-  pub two_setl : isnt k "cons" → is k "setl" → Request.Row (RowCall.SetLeft x y) ≡ with_two k x y
-  unfolding with_two
-  two_setl h₁ h₂ = rw (h₁, h₂)
-
-  pub two_setr : isnt k "cons" → isnt k "setl" → is k "setr" → Request.Row (RowCall.SetRight x y) ≡ with_two k x y
-  unfolding with_two
-  two_setr h₁ h₂ h₃ = rw (h₁, h₂, h₃)
-
-  pub two_up : isnt k "cons" → isnt k "setl" → isnt k "setr" → is k "up" → Request.Row (RowCall.Up x y) ≡ with_two k x y
-  unfolding with_two
-  two_up h₁ h₂ h₃ h₄ = rw (h₁, h₂, h₃, h₄)
-
-  pub two_down : isnt k "cons" → isnt k "setl" → isnt k "setr" → isnt k "up" → is k "down" → Request.Row (RowCall.Down x y) ≡ with_two k x y
-  unfolding with_two
-  two_down h₁ h₂ h₃ h₄ h₅ = rw (h₁, h₂, h₃, h₄, h₅)
-
-  pub two_bad : isnt k "cons" → isnt k "setl" → isnt k "setr" → isnt k "up" → isnt k "down" → Request.Bad ≡ with_two k x y
-  unfolding with_two
-  two_bad h₁ h₂ h₃ h₄ h₅ = rw (h₁, h₂, h₃, h₄, h₅)
-
--- the words of what follows a keyword, by the place of the next space
-pub words_one : (s : List ℕ) (n : ℕ) → n ≡ before space s → n ≡ length s → words_of s ≡ s ∷ []
-words_one s n e h = split_all space s (sym e ∙ h)
-
-pub words_more : (s : List ℕ) (n : ℕ) → n ≡ before space s → n ≤ length s → (n ≡ length s → ⊥) → words_of s ≡ take n s ∷ words_of (drop (n + 1) s)
-words_more s n e l h =
-    let less : before space s < length s = omega arith in
-    split_at space ([] ∷ []) s less ∙ rw (e, add-one (before space s))
+  pub same_end : length a ≤ i → length b ≤ i → bytes_eq (drop i a) (drop i b) ≡ true
+  same_end ha hb = rw (drop_of_length-le a ha, drop_of_length-le b hb)
 
 -- a split has a part
 pub some_word : (s : List ℕ) → (w : List ℕ) × (ws : List (List ℕ)) × (words_of s ≡ w ∷ ws)
@@ -86,11 +43,12 @@ some_word (x ∷ xs) = go (eqb x space) (some_word xs)
     go true r = ([], split space ([] ∷ []) xs, refl)
     go false r = (x ∷ r.0, r.1, rw r.2)
 
-pub too_many_lem : (k a s : List ℕ) (n : ℕ) → n ≡ before space s → n ≤ length s → (n ≡ length s → ⊥) → Request.Bad ≡ by_words (k ∷ a ∷ words_of s)
+-- with a space behind a second operand
+pub too_many_lem : (k a : List ℕ) {s l r : List ℕ} → SplitsAt space s l r → None ≡ by_words (k ∷ a ∷ words_of s)
 unfolding by_words
-too_many_lem k a s n e l h = let w = some_word (drop (n + 1) s) in rw (words_more s n e l h, w.2)
+too_many_lem k a {r = r} p = let w = some_word r in rw (split_at ([] ∷ []) p, w.2)
 
-pub line_long : (s : List ℕ) → most_bytes < length s → Request.Bad ≡ request_of s
+pub line_long : (s : List ℕ) → most_bytes < length s → None ≡ request_of s
 unfolding request_of
 line_long s h = rw (lt-leb (length s) most_bytes h)
 
@@ -98,28 +56,26 @@ pub line_short : (s : List ℕ) → length s ≤ most_bytes → by_words (words_
 unfolding request_of
 line_short s h = rw (le-leb (length s) most_bytes h)
 
-pub one_word : (k s : List ℕ) (n : ℕ) (a : Number) → a ≡ operand_of s → n ≡ before space s → n ≡ length s → if_one k a ≡ by_words (k ∷ words_of s)
+pub one_word : (k s : List ℕ) {a : Option ℕ} → a ≡ operand_of s → before space s ≡ length s → if_one k a ≡ by_words (k ∷ words_of s)
 unfolding by_words
-one_word k s n a ea e h = rw (words_one s n e h, ea)
+one_word k s ea h = rw (split_all space s h, ea)
 
-pub both_words : (k u s : List ℕ) (n : ℕ) (a b : Number) → a ≡ operand_of u → b ≡ operand_of s → n ≡ before space s → n ≡ length s
+pub both_words : (k u s : List ℕ) {a b : Option ℕ} → a ≡ operand_of u → b ≡ operand_of s → before space s ≡ length s
     → if_both k a b ≡ by_words (k ∷ u ∷ words_of s)
 unfolding by_words
-both_words k u s n a b ea eb e h = rw (words_one s n e h, ea, eb)
+both_words k u s ea eb h = rw (split_all space s h, ea, eb)
 
 -- the one call that is a word alone
-pub alone_step : (s : List ℕ) → is s "step" → Request.Step ≡ request_of s
-unfolding split same_bytes with_none by_words request_of
-alone_step s h = rw (same_equal s (ascii "step") h)
+pub alone_step : (s : List ℕ) → bytes_eq s (ascii "step") ≡ true → Some Request.Step ≡ request_of s
+unfolding split with_none by_words request_of
+alone_step s h = rw ((bytes_eq-Decides s (ascii "step")).0 h)
 
-pub alone_bad : (s : List ℕ) (n : ℕ) → n ≡ before space s → n ≡ length s → length s ≤ most_bytes → isnt s "step" → Request.Bad ≡ request_of s
+pub alone_bad : (s : List ℕ) → before space s ≡ length s → length s ≤ most_bytes → bytes_eq s (ascii "step") ≡ false → None ≡ request_of s
 unfolding with_none by_words
-alone_bad s n e h l other = rw (← line_short s l, words_one s n e h, other)
+alone_bad s h l other = rw (← line_short s l, split_all space s h, other)
 
-pub more_words : (k s : List ℕ) (n : ℕ) → n ≡ before space s → n ≤ length s → (n ≡ length s → ⊥)
-    → by_words (k ∷ take n s ∷ words_of (take (length s - (n + 1)) (drop (n + 1) s))) ≡ by_words (k ∷ words_of s)
-more_words k s n e h m = rw (last_part s (n + 1), words_more s n e h m)
+pub more_words : (k : List ℕ) {s l r : List ℕ} → SplitsAt space s l r → by_words (k ∷ l ∷ words_of r) ≡ by_words (k ∷ words_of s)
+more_words k p = rw (split_at ([] ∷ []) p)
 
-pub with_words : (s : List ℕ) (n : ℕ) → n ≡ before space s → n ≤ length s → (n ≡ length s → ⊥) → length s ≤ most_bytes
-    → by_words (take n s ∷ words_of (take (length s - (n + 1)) (drop (n + 1) s))) ≡ request_of s
-with_words s n e h m l = rw (← line_short s l, last_part s (n + 1), words_more s n e h m)
+pub with_words : {s l r : List ℕ} → SplitsAt space s l r → length s ≤ most_bytes → by_words (l ∷ words_of r) ≡ request_of s
+with_words {s} p m = rw (← line_short s m, split_at ([] ∷ []) p)

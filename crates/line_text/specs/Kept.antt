@@ -6,8 +6,8 @@ use Rattle.line_text.specs.Requests.{most_bytes}
 abbrev pub kept_bytes : ℕ
 kept_bytes = suc most_bytes
 
--- What is kept of a line is the front of all its bytes.
+-- What is kept of a line is the front of all its bytes, as many as there is room for.
 pub record Keeps (line : List ℕ) (held : ℕ) (part new : List ℕ) (held' : ℕ) : Type 0 where
-  pub most : held' ≤ kept_bytes
+  pub most : held' ≤ length line
   pub size : length new ≡ length line
-  pub front : length line ≡ kept_bytes → take held' new ≡ take kept_bytes (take held line ++ part)
+  pub front : take held' new ≡ take (length line) (take held line ++ part)

@@ -10,10 +10,6 @@ pub record ShowsTens (text : List ℕ) (size number : ℕ) : Type 0 where
   pub front : take size text ≡ decimal shown
   pub ends : size ≡ length (decimal shown)
 
--- a text that shows the tens of a number, or of the one before it, comes to show its tens
-abbrev pub CountsUp : List ℕ → ℕ → ℕ → List ℕ → ℕ → Type 0
-CountsUp text size number new size' = (last : ℕ) → ShowsTens text size last → last ≤ number → number ≤ last + 1 → ShowsTens new size' number
-
 -- one more, unless the number stops: line numbers are below 2^64
 pub record Next (lines number : ℕ) : Type 0 where
   pub least : lines ≤ number

@@ -7,13 +7,12 @@ pub mod texts;
 
 use machine::RowCall;
 
-// A line's call with its operands, or any other line.
+// A line's call with its operands.
 #[derive(Clone, Copy)]
 pub enum Request {
     Fresh(u16),
     Row(RowCall),
     Step,
-    Bad,
 }
 
 // What an output line says after its number.

@@ -1,79 +1,69 @@
--- What the load program hands on: the calls of `keep` and of `next` make the lists that the theorem on whole loads wants (load_lines/specs/Whole). That a
--- part is what was read, and that the output is written, is not stated: std's contracts say nothing of the bytes of the system's streams.
-use Rattle.std.specs.Prelude.{◌≡◌, false, List, ℕ, ◌+◌, ◌^◌, ◌≤◌, length, take, replicate}
-use Rattle.line_text.specs.Kept.{kept_bytes, Keeps}
-use Rattle.streams.specs.declared.Outcome.{Outcome}
-use Rattle.streams.specs.declared.Read as declared
-use Rattle.streams.specs.Reading.{Within, Counted}
-use Rattle.traffic.specs.declared.Workload.{Workload}
+-- What the load program hands on: the calls of `keep` and of `next` make the lists that the theorem on whole loads wants (load_lines/specs/Whole), and what
+-- is kept is of what is read, and what they give is written, where the bytes of the reader and the writer are known. Of the system's own streams std's
+-- contracts say nothing of bytes.
+use Rattle.std.specs.Prelude.{◌≡◌, Bool, true, false, List, [], ◌++◌, ℕ, ◌≤◌, replicate, OnOk}
+use Rattle.std.proofs.Common.{refl}
+use Rattle.std.specs.declared.option.Option.{Option}
+use Rattle.std.specs.declared.result.Result.{Result}
+use Rattle.line_text.specs.Kept.{kept_bytes}
+use Rattle.serving.specs.Threads.{Threads}
+use Rattle.serving.proofs.ThreadsLaws.{threads_none, threads_both}
+use Rattle.streams.specs.declared.Failure.{Failure}
+use Rattle.streams.specs.Service.{Serves}
 use Rattle.traffic.specs.Workload.{workload_of}
-use Rattle.load_lines.specs.declared.Load.{Load}
 use Rattle.load_lines.specs.Listing.{listing}
 use Rattle.load_lines.specs.Progress.{is_more}
-use Rattle.load_lines.specs.Whole.{Kept, kept_input, Read, Reads, last_kept, inputs, State, Part, Wrote, last_state, outputs, nothing, begin}
+use Rattle.load_lines.specs.Whole.{Kept, kept, kept_input, Read, KeptPart, part, State, Part, WrotePart, left, written, begin}
+use Rattle.load.specs.declared.Input.{Input}
+use Rattle.load.specs.declared.Sending.{Sending}
 
-abbrev pub kept : List ℕ → ℕ → Kept
-kept line held = record { line = line; held = held }
+-- what is kept, and what is sent from, as the theorem on whole loads has them
+abbrev pub kept_of : Input → Kept
+kept_of k = record { line = k.line; held = k.held }
 
-abbrev pub state : Load → List ℕ → List ℕ → State
-state load table scratch = record { load = load; table = table; scratch = scratch }
+abbrev pub state : Sending → State
+state s = record { load = s.load; table = s.table; scratch = s.scratch }
 
--- after a read into the buffer its bytes are kept; at the end of the input and after a failure nothing changes
-abbrev pub Follows : declared.Read → Kept → List ℕ → Outcome → Kept → Type 0
-Follows (declared.Read.Bytes n) k buffer outcome k' = (outcome ≡ Outcome.More) × Keeps k.line k.held (take n buffer) k'.line k'.held
-Follows declared.Read.End k buffer outcome k' = (outcome ≡ Outcome.End) × (k' ≡ k)
-Follows declared.Read.Failed k buffer outcome k' = (outcome ≡ Outcome.Failed) × (k' ≡ k)
+-- a call of `keep` gives nothing
+abbrev pub none_given : Read → List ℕ
+none_given r = []
 
--- one read, whatever it gave
-pub record ReadsPart (k : Kept) (buffer : List ℕ) (outcome : Outcome) (k' : Kept) : Type 0 where
-  pub read : declared.Read
-  pub within : Within (length buffer) read
-  pub follows : Follows read k buffer outcome k'
+-- some calls of `keep`, each handed what the last one kept, lead from k to k', and take the bytes x
+pub record Gathers (k : Input) (x y : List ℕ) (k' : Input) : Type 0 where
+  pub threads : Threads KeptPart kept part none_given (kept_of k) x y (kept_of k')
+  pub most : k.held ≤ kept_bytes → k'.held ≤ kept_bytes
+  pub gives : y ≡ []
 
--- some calls of `keep`, each handed what the last one kept
-pub record Gathers (k : Kept) (k' : Kept) : Type 0 where
-  pub reads : List Read
-  pub kept : Reads k reads
-  pub last : last_kept k reads ≡ k'
+pub gathers_none : (k : Input) → Gathers k [] [] k
+gathers_none k = record { threads = threads_none (kept_of k); most = λ h. h; gives = refl }
 
--- the whole input, with no read left
-pub record ReadsAll (line : List ℕ) (outcome : Outcome) (k : Kept) : Type 0 where
-  pub gathers : Gathers (nothing line) k
-  pub size : length k.line ≡ length line
-  pub most : k.held ≤ kept_bytes
-  pub counted : Counted outcome 0 (inputs gathers.reads)
+pub gathers_both : {k k' k'' : Input} {x y x' y' : List ℕ} → Gathers k x y k' → Gathers k' x' y' k'' → Gathers k (x ++ x') (y ++ y') k''
+gathers_both a b = record { threads = threads_both a.threads b.threads; most = λ h. b.most (a.most h); gives = rw (a.gives, b.gives) refl }
 
--- some calls of `next`, each handed the state that the last one left, until there is no more, unless a write failed
-abbrev pub Over : Outcome → State → Type 0
-Over Outcome.More s = ⊥
-Over Outcome.End s = is_more s.load ≡ false
-Over Outcome.Failed s = Unit {0}
+-- a call of `next` takes nothing
+abbrev pub none_taken : Part → List ℕ
+none_taken p = []
 
-pub record Sends (s : State) (outcome : Outcome) : Type 0 where
-  pub parts : List Part
-  pub wrote : Wrote s parts
-  pub over : Over outcome (last_state s parts)
+-- some calls of `next`, each handed the state that the last one left, lead from s to s', and give the bytes y; and whether there is more
+pub record Sends (s : Sending) (y : List ℕ) (more : Bool) (s' : Sending) : Type 0 where
+  pub threads : Threads WrotePart left none_taken written (state s) [] y (state s')
+  pub goes : more ≡ is_more s'.load
 
--- only at the end of the input something is written
-abbrev pub Concludes : Outcome → Workload → Outcome → Type 0
-Concludes Outcome.More asked result = result ≡ Outcome.More
-Concludes Outcome.End asked result = Sends (begin asked) result
-Concludes Outcome.Failed asked result = result ≡ Outcome.Failed
+pub sends_both : {s s' s'' : Sending} {x y : List ℕ} {more : Bool} → Sends s x true s' → Sends s' y more s'' → Sends s (x ++ y) more s''
+sends_both a b = record { threads = threads_both a.threads b.threads; goes = b.goes }
 
--- the calls of `next` began with the workload of what was kept, and their outputs joined are the listing of the inputs joined
-pub record Listed (reads : List Read) (k : Kept) : Type 0 where
-  pub parts : List Part
-  pub wrote : Wrote (begin (workload_of (kept_input k))) parts
-  pub listed : outputs parts ≡ listing (inputs reads)
+-- the calls of `next` began with the workload of what was kept, and there is no more
+pub record Ends (k : Input) (y : List ℕ) : Type 0 where
+  pub first : Sending
+  pub last : Sending
+  pub begins : state first ≡ begin (workload_of (kept_input (kept_of k)))
+  pub sends : Sends first y false last
 
--- how a run ends
-abbrev pub Ends : Outcome → List Read → Kept → Type 0
-Ends Outcome.More reads k = 2 ^ 64 ≤ length (inputs reads) + 1
-Ends Outcome.End reads k = Listed reads k
-Ends Outcome.Failed reads k = Unit {0}
+-- nothing is kept yet
+abbrev pub no_input : Input
+no_input = record { line = replicate kept_bytes 0; held = 0 }
 
--- a whole run: reads from the beginning, and how it ends
-pub record Runs (outcome : Outcome) : Type 0 where
-  pub reads : List Read
-  pub gathered : Reads (nothing (replicate kept_bytes 0)) reads
-  pub ends : Ends outcome reads (last_kept (nothing (replicate kept_bytes 0)) reads)
+-- a whole run: where it comes to the input's end, what was given is, by the theorem on whole loads, the listing of what was taken
+pub record Runs (r w : Option (List ℕ)) (result : Result (Unit {0}) Failure) (r' w' : Option (List ℕ)) : Type 0 where
+  pub serves : Serves Gathers Ends no_input r w result r' w'
+  pub listed : OnOk result (serves.given ++ serves.ending ≡ listing serves.taken)

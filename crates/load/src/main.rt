@@ -1,186 +1,133 @@
 // The load bench's traffic: one line from standard input, calls and replies to standard output. Proved (specs/Threading): what goes from call to call is
-// as load_lines' theorem on whole loads wants it. Not proved, since std's contracts say nothing of the bytes of the system's streams: that what is kept is
-// of the input, and that the output is written.
+// as load_lines' theorem on whole loads wants it, and where the reader's and the writer's bytes are known, that what is kept is of these and that these are
+// written; of the system's own streams std's contracts say nothing of bytes.
 #![tactic(auto)]
 
-ghost use Rattle.std.specs.Prelude.{◌≡◌, true, ◌≤◌, length};
-ghost use Rattle.line_text.specs.Kept.{kept_bytes};
-ghost use Rattle.streams.specs.Reading.{Within};
-ghost use Rattle.load_lines.specs.Progress.{is_more, both_room};
+ghost use Rattle.std.specs.Prelude.{◌≡◌, ℕ, true, ◌+◌, ◌-◌, ◌≤◌, ◌<◌, length};
+ghost use Rattle.load_lines.specs.Progress.{calls_of, is_more, both_room};
 ghost use Rattle.load_lines.specs.Whole.{begin};
-ghost use Rattle.load.specs.Threading.{kept, state, Follows, ReadsPart, ReadsAll, Sends, Concludes, Runs};
+ghost use Rattle.load.specs.Threading.{state, Gathers, gathers_none, gathers_both, Sends, sends_both, Runs};
 
 use line_text::kept::{KEPT_BYTES, keep};
 use load_lines::Load;
 use std::io;
-use streams::{Outcome, Read, large_buffer, left, read_front};
+use streams::{Failure, Fed, Feed, LARGE, Sent, Source, send, take_input, tell_failure};
 use traffic::Workload;
 use traffic::input::workload;
 
-// How many bytes are kept, and how the program goes on.
+// What is kept of the input: its first bytes.
 #[derive(Drop)]
 struct Input {
+    line: [u8; KEPT_BYTES],
     held: usize,
-    outcome: Outcome,
 }
 
-// What a read put into the buffer's front joins what is kept of the input. A failure is told on standard error.
-fn follow<E: io::Write>(
-    errors: &mut E,
-    read: Read,
-    line: &mut [u8; KEPT_BYTES],
-    held: usize,
-    buffer: &[u8],
-) -> Input
-    requires { Within (length buffer.now) read }
-    ensures { Follows read (kept line.old held) buffer.now result.outcome (kept line.new result.held) }
-{
-    match read {
-        Read::Bytes(n) => {
-            let more = keep(line, held, &buffer[..n]);
-            Input {
-                held: more,
-                outcome: Outcome::More,
-            }
-        }
-        Read::End => Input {
-            held: held,
-            outcome: Outcome::End,
-        },
-        Read::Failed => {
-            streams::tell(errors, b"load: reading failed\n");
-            Input {
-                held: held,
-                outcome: Outcome::Failed,
-            }
+impl Feed for Input {
+    ghost feeds = { Gathers };
+
+    ghost feed_room = { 0 };
+
+    ghost feeds_none = { gathers_none };
+
+    ghost feeds_both = { λ s s' s'' x y x' y' a b. gathers_both a b };
+
+    fn feed(&mut self, input: &[u8], out: &mut [u8]) -> Fed {
+        self.held = keep(&mut self.line, self.held, input);
+        Fed {
+            taken: input.len(),
+            written: 0,
         }
     }
 }
 
-// One read, and what it gives.
-fn read_part<R: io::Read, E: io::Write>(
-    reader: &mut R,
-    errors: &mut E,
-    line: &mut [u8; KEPT_BYTES],
-    held: usize,
-    buffer: &mut [u8],
-) -> Input
-    ensures { ReadsPart (kept line.old held) buffer.new result.outcome (kept line.new result.held) }
-{
-    let read = read_front(reader, buffer);
-    follow(errors, read, line, held, buffer)
-}
-
-// The whole input, of which the first bytes are kept.
-fn read_all<R: io::Read, E: io::Write>(
-    reader: &mut R,
-    errors: &mut E,
-    line: &mut [u8; KEPT_BYTES],
-    buffer: &mut [u8],
-) -> Input
-    ensures { ReadsAll line.old result.outcome (kept line.new result.held) }
-{
-    let mut held = 0;
-    let mut outcome = Outcome::More;
-    let mut reads = u64::MAX;
-    while 0 < reads {
-        let input = read_part(reader, errors, line, held, buffer);
-        held = input.held;
-        outcome = input.outcome;
-        reads = left(reads, outcome);
-    }
-    Input {
-        held: held,
-        outcome: outcome,
-    }
-}
-
-// Writes to standard output; a failure is told on standard error.
-fn put<W: io::Write, E: io::Write>(writer: &mut W, errors: &mut E, bytes: &[u8]) -> bool {
-    streams::put(writer, errors, bytes, b"load: writing failed\n")
-}
-
-// All that the load gives is written.
-fn send<W: io::Write, E: io::Write>(
-    writer: &mut W,
-    errors: &mut E,
+// A load with the table and the scratch that it works on.
+#[derive(Drop)]
+struct Sending {
     load: Load,
-    table: &mut [u16],
-    scratch: &mut [u16],
-    out: &mut [u8],
-) -> Outcome
-    requires { (is_more load ≡ true) × (both_room ≤ length out.old) }
-    ensures { Sends (state load table.old scratch.old) result }
-{
-    let mut present = load;
-    let mut more = true;
-    while more {
-        let before = present;
-        let written = load_lines::next(before, table, scratch, out);
-        let after = written.load;
-        let end = written.written;
-        present = after;
-        more = written.more;
-        if !put(writer, errors, &out[..end]) {
-            return Outcome::Failed;
-        }
-    }
-    Outcome::End
+    table: [u16; cells::MOST_WORDS],
+    scratch: [u16; cells::MOST_SCRATCH],
 }
 
-// At the end of the input, and only there, something is written.
-fn conclude<W: io::Write, E: io::Write>(
+impl Sending {
+    // It begins with the table and the scratch of the theorem on whole loads.
+    fn start(asked: Option<Workload>) -> Sending
+        ensures { state result ≡ begin asked }
+    {
+        Sending {
+            load: Load::start(asked),
+            table: [0; cells::MOST_WORDS],
+            scratch: [0; cells::MOST_SCRATCH],
+        }
+    }
+}
+
+impl Source for Sending {
+    ghost ready = { λ s. is_more s.load ≡ true };
+
+    ghost sends = { λ s y more _ s'. Sends s y more s' };
+
+    ghost calls_left = { λ s. calls_of s.load.asked + 1 - s.load.done };
+
+    ghost send_room = { both_room };
+
+    ghost sends_both = { λ s s' s'' x y out out' more a b. sends_both a b };
+
+    fn next(&mut self, out: &mut [u8]) -> Sent {
+        let written = load_lines::next(self.load, &mut self.table, &mut self.scratch, out);
+        self.load = written.load;
+        Sent {
+            written: written.written,
+            more: self.load.is_more(),
+        }
+    }
+}
+
+// The whole input is taken, of which the first bytes are kept, and at its end, and only there, the load that they ask for is written.
+fn answer<R: io::Read, W: io::Write>(
+    reader: &mut R,
     writer: &mut W,
-    errors: &mut E,
-    outcome: Outcome,
-    asked: Workload,
-    table: &mut [u16],
-    scratch: &mut [u16],
-    out: &mut [u8],
-) -> Outcome
-    requires { (table.old ≡ (begin asked).table) × (scratch.old ≡ (begin asked).scratch) × (both_room ≤ length out.old) }
-    ensures { Concludes outcome asked result }
+    buffer: &mut [u8],
+) -> Result<(), Failure>
+    requires buffer { 0 < length buffer.old }
+    requires room { both_room ≤ length buffer.old }
+    ensures { Runs (R.remaining reader.old) (W.contents writer.old) result (R.remaining reader.new) (W.contents writer.new) }
 {
-    match outcome {
-        Outcome::More => Outcome::More,
-        Outcome::Failed => Outcome::Failed,
-        Outcome::End => {
-            let load = Load::start(asked);
-            send(writer, errors, load, table, scratch, out)
-        }
-    }
+    let mut input = Input {
+        line: [0; KEPT_BYTES],
+        held: 0,
+    };
+    take_input(reader, writer, &mut input, buffer, &mut [])?;
+    let mut sending = Sending::start(workload(&input.line[..input.held]));
+    send(writer, &mut sending, buffer)
 }
 
-// It begins with the table and the scratch of the theorem on whole loads.
+// A failure is told on standard error.
 fn run<R: io::Read, W: io::Write, E: io::Write>(
     reader: &mut R,
     writer: &mut W,
     errors: &mut E,
-    table: &mut [u16],
-    scratch: &mut [u16],
     buffer: &mut [u8],
-) -> Outcome
-    requires { (table.old ≡ (begin Workload.Bad).table) × (scratch.old ≡ (begin Workload.Bad).scratch) × (both_room ≤ length buffer.old) }
-    ensures { Runs result }
+) -> Result<(), Failure>
+    requires buffer { 0 < length buffer.old }
+    requires room { both_room ≤ length buffer.old }
+    ensures { Runs (R.remaining reader.old) (W.contents writer.old) result (R.remaining reader.new) (W.contents writer.new) }
 {
-    let mut line = [0; KEPT_BYTES];
-    let input = read_all(reader, errors, &mut line, buffer);
-    let held = input.held;
-    let outcome = input.outcome;
-    let asked = workload(&line[..held]);
-    conclude(writer, errors, outcome, asked, table, scratch, buffer)
+    let ended = answer(reader, writer, buffer);
+    tell_failure(
+        errors,
+        ended,
+        b"load: reading failed\n",
+        b"load: writing failed\n",
+    );
+    ended
 }
 
 fn main(rt: HostRuntime) {
-    let mut table = [0u16; cells::MOST_WORDS];
-    let mut scratch = [0u16; cells::MOST_SCRATCH];
-    let mut buffer = large_buffer();
-    run(
+    let mut buffer = [0; LARGE];
+    let _ = run(
         &mut rt.stdin(),
         &mut rt.stdout(),
         &mut rt.stderr(),
-        &mut table,
-        &mut scratch,
         &mut buffer,
     );
 }

@@ -47,7 +47,6 @@ unfolding before call_text
 call_free (Request.Fresh c) = one_free (ascii "fresh ") c refl
 call_free (Request.Row call) = row_free call
 call_free Request.Step = refl
-call_free Request.Bad = refl
 
 -- the lines of the call lines are the calls' texts
 next_line : (request : Request) (rest : List ℕ) → lines_of (call_line request ++ rest) ≡ call_text request ∷ lines_of rest

@@ -2,6 +2,7 @@
 use mathlib.Core.Path.{◌≡◌, refl, sym, ap, ◌∙◌}
 use mathlib.Core.List.{List, [], ◌∷◌, ◌++◌, append_assoc}
 use Prim.Native.Nat.{ℕ, zero, suc}
+use Rattle.std.specs.Prelude.{Option, Some, None}
 use lib.ListN.{length, take}
 use borrow.Author.Tests.{leb-false}
 use Rattle.base_ten.proofs.WordLaws.{append_none}
@@ -14,7 +15,7 @@ use Rattle.traffic.specs.Workload.{workload_of}
 use Rattle.traffic.specs.Traffic.{traffic}
 use Rattle.traffic.proofs.CapLaws.{workload_capped}
 use Rattle.load_lines.specs.Listing.{listing_with, listing}
-use Rattle.load_lines.specs.Progress.{upcoming, ahead}
+use Rattle.load_lines.specs.Progress.{upcoming, ahead, calls_of}
 use Rattle.load_lines.specs.Whole.{Kept, kept_input, Read, Reads, last_kept, inputs, State, Part, Wrote, last_state, outputs, nothing, begin, Whole}
 use Rattle.load_lines.proofs.WriteLaws.{nothing_ahead}
 
@@ -30,7 +31,7 @@ kept_front : (k : Kept) (xs : List ℕ) (rs : List Read) → length k.line ≡ k
 kept_front k xs [] size e h = e ∙ ap (take kept_bytes) (sym (append_none xs))
 kept_front k xs (r ∷ rs) size e h =
     kept_front r.after (xs ++ r.part) rs (h.0.size ∙ size)
-    (h.0.front size ∙ ap (λ (x : List ℕ). take kept_bytes (x ++ r.part)) e ∙ take_front kept_bytes xs r.part)
+    (rw size at h.0.front ∙ ap (λ (x : List ℕ). take kept_bytes (x ++ r.part)) e ∙ take_front kept_bytes xs r.part)
     h.1
     ∙ ap (take kept_bytes) (append_assoc xs r.part (inputs rs))
 
@@ -46,14 +47,14 @@ all_written s (p ∷ ps) h g =
     ∙ sym (append_assoc (take p.written p.buffer) (outputs ps) rest)
 
 -- before the first line the listing is all that is ahead
-ahead_all : (w : Workload) → ahead (begin w).load (begin w).table (begin w).scratch ≡ listing_with most_cells w
+ahead_all : (w : Option Workload) → ahead (begin w).load (begin w).table (begin w).scratch ≡ listing_with most_cells w
 unfolding ahead upcoming listing_with traffic
-ahead_all (Workload.Run seed c n) = refl
-ahead_all Workload.Bad = refl
+ahead_all (Some w) = refl
+ahead_all None = refl
 
-begun_good : (w : Workload) → Good (begin w).table (begin w).load.queue
-begun_good (Workload.Run seed c n) = unmade_good
-begun_good Workload.Bad = unmade_good
+begun_good : (w : Option Workload) → Good (begin w).table (begin w).load.queue
+begun_good (Some w) = unmade_good
+begun_good None = unmade_good
 
 pub whole : Whole
 unfolding listing
@@ -63,7 +64,7 @@ whole line reads parts size h wrote over =
     ap workload_of (kept_front (nothing line) [] reads size refl h) ∙ workload_capped (inputs reads) in
     let s = begin (workload_of kept) in
     let last = last_state s parts in
-    let done = leb-false last.load.done last.load.calls over in
+    let done = leb-false last.load.done (calls_of last.load.asked) over in
     sym (append_none (outputs parts))
     ∙ ap (λ (x : List ℕ). outputs parts ++ x) (sym (nothing_ahead last.load last.table last.scratch done))
     ∙ sym (all_written s parts wrote (begun_good (workload_of kept)))

@@ -1,5 +1,5 @@
 -- The listing of an input: what the load program writes, as a definition on the list of the input's bytes.
-use Rattle.std.specs.Prelude.{List, [], ◌∷◌, ◌++◌, ℕ, suc}
+use Rattle.std.specs.Prelude.{Option, Some, None, List, [], ◌∷◌, ◌++◌, ℕ, suc}
 use Rattle.base_ten.specs.Bytes.{ascii, line_feed}
 use Rattle.machine.specs.Words.{most_cells}
 use Rattle.machine.specs.Calls.{Store}
@@ -23,9 +23,9 @@ abbrev pub bad_line : List ℕ
 bad_line = ascii "BAD" ++ (line_feed ∷ [])
 
 -- "fresh's first", numbered "from 1 for fresh", with a table for so many cells
-unfoldable pub listing_with : ℕ → Workload → List ℕ
-listing_with most (Workload.Run seed c n) = told 0 (unmade most) (traffic seed c n)
-listing_with most Workload.Bad = bad_line
+unfoldable pub listing_with : ℕ → Option Workload → List ℕ
+listing_with most (Some w) = told 0 (unmade most) (traffic w.seed w.cells w.calls)
+listing_with most None = bad_line
 
 -- the program's table is long enough for 4,096 cells, as a session's is
 unfoldable pub listing : List ℕ → List ℕ

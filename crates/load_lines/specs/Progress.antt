@@ -1,5 +1,5 @@
 -- How far a load has come: what is still to be written follows from its state.
-use Rattle.std.specs.Prelude.{◌≡◌, Bool, true, false, cond, List, [], ◌∷◌, ◌++◌, ℕ, zero, suc, ◌+◌, ◌-◌, ◌≤◌, ◌<◌, leb, length, take}
+use Rattle.std.specs.Prelude.{◌≡◌, Bool, Option, Some, None, List, [], ◌∷◌, ◌++◌, ℕ, zero, suc, ◌+◌, ◌-◌, ◌≤◌, ◌<◌, leb, length, take}
 use Rattle.machine.specs.declared.Queue.{Queue}
 use Rattle.machine.specs.Queue.{empty_queue}
 use Rattle.machine.specs.Calls.{store}
@@ -17,14 +17,14 @@ use Rattle.load_lines.specs.Listing.{told, bad_line}
 abbrev pub both_room : ℕ
 both_room = line_room + room
 
--- a load is told by its six parts
-abbrev pub load_of : Bool → ℕ → ℕ → ℕ → ℕ → Queue → Load
-load_of bad cells calls state done queue = record { bad = bad; cells = cells; calls = calls; state = state; done = done; queue = queue }
+-- a load is told by its four parts
+abbrev pub load_of : Option Workload → ℕ → ℕ → Queue → Load
+load_of asked state done queue = record { asked = asked; state = state; done = done; queue = queue }
 
--- before the first line; what is no workload has one line to write, as a load of no calls has
-abbrev pub started : Workload → Load
-started (Workload.Run seed c n) = load_of false c n seed 0 empty_queue
-started Workload.Bad = load_of true 0 0 0 0 empty_queue
+-- before the first line
+abbrev pub started : Option Workload → Load
+started (Some w) = load_of (Some w) w.seed 0 empty_queue
+started None = load_of None 0 0 empty_queue
 
 -- the call after so many: fresh is the first
 abbrev pub turn : ℕ → ℕ → ℕ → Drawn
@@ -41,20 +41,27 @@ abbrev pub bad_ahead : ℕ → List ℕ
 bad_ahead zero = bad_line
 bad_ahead (suc done) = []
 
--- the output still to come
+-- the output still to come, of a workload and of an input that is none
+abbrev pub lines_ahead : Option Workload → Load → List ℕ → List ℕ → List ℕ
+lines_ahead (Some w) l t scratch = told l.done (store t l.queue scratch) (upcoming w.cells l.state w.calls l.done)
+lines_ahead None l t scratch = bad_ahead l.done
+
 unfoldable pub ahead : Load → List ℕ → List ℕ → List ℕ
-ahead l t scratch =
-    cond l.bad (bad_ahead l.done) (told l.done (store t l.queue scratch) (upcoming l.cells l.state l.calls l.done))
+ahead l t scratch = lines_ahead l.asked l t scratch
+
+-- what is no workload has one line to write, as a load of no calls has
+abbrev pub calls_of : Option Workload → ℕ
+calls_of (Some w) = w.calls
+calls_of None = 0
 
 -- nothing is left to write once more lines are done than there are calls
 abbrev pub is_more : Load → Bool
-is_more l = leb l.done l.calls
+is_more l = leb l.done (calls_of l.asked)
 
 -- The buffer's front is the next of the output; with room for a call's two lines there is some, unless all is written.
-pub record Writes (l : Load) (t scratch : List ℕ) (l' : Load) (written : ℕ) (more : Bool) (t' scratch' out : List ℕ) : Type 0 where
+pub record Writes (l : Load) (t scratch : List ℕ) (l' : Load) (written : ℕ) (t' scratch' out : List ℕ) : Type 0 where
   pub within : written ≤ length out
-  pub going : more ≡ is_more l'
-  pub calls : l'.calls ≡ l.calls
-  pub some : l.done ≤ l.calls → both_room ≤ length out → l.done < l'.done
+  pub asked : l'.asked ≡ l.asked
+  pub some : l.done ≤ calls_of l.asked → both_room ≤ length out → l.done < l'.done
   pub good : Good t l.queue → Good t' l'.queue
   pub listing : Good t l.queue → ahead l t scratch ≡ take written out ++ ahead l' t' scratch'

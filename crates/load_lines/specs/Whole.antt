@@ -1,6 +1,6 @@
 -- The whole load: the outputs of the parts joined are the listing of the inputs joined, however the input is parted and whatever buffers are lent. The
 -- proof is `whole` in proofs/Theorem.
-use Rattle.std.specs.Prelude.{◌≡◌, Bool, false, List, ℕ, length, take, replicate}
+use Rattle.std.specs.Prelude.{◌≡◌, Option, false, List, ℕ, length, take, replicate}
 use Rattle.machine.specs.Words.{most_cells}
 use Rattle.machine.specs.Table.{table_length, scratch_words}
 use Rattle.line_text.specs.Kept.{kept_bytes, Keeps}
@@ -49,11 +49,10 @@ pub record State : Type 0 where
   pub table : List ℕ
   pub scratch : List ℕ
 
--- one call of `next`: the buffer lent, of which it wrote so much, whether there is more, and the state it left
+-- one call of `next`: the buffer lent, of which it wrote so much, and the state it left
 pub record Part : Type 0 where
   pub buffer : List ℕ
   pub written : ℕ
-  pub more : Bool
   pub after : State
 
 abbrev pub left : Part → State
@@ -65,7 +64,7 @@ written p = take p.written p.buffer
 -- each call is handed the state that the last one left, and keeps the promise of `next`
 abbrev pub WrotePart : State → Part → Type 0
 WrotePart s p =
-    Writes s.load s.table s.scratch p.after.load p.written p.more p.after.table p.after.scratch p.buffer
+    Writes s.load s.table s.scratch p.after.load p.written p.after.table p.after.scratch p.buffer
 
 abbrev pub Wrote : State → List Part → Type 0
 Wrote s ps = Linked WrotePart left s ps
@@ -81,7 +80,7 @@ abbrev pub nothing : List ℕ → Kept
 nothing line = record { line = line; held = 0 }
 
 -- a table for 4,096 cells, zero before a fresh
-abbrev pub begin : Workload → State
+abbrev pub begin : Option Workload → State
 begin w = record { load = started w; table = replicate (table_length most_cells) 0; scratch = replicate (scratch_words most_cells) 0 }
 
 -- any input, in parts of any size, and buffers of any size, until there is no more to write

@@ -4,7 +4,7 @@
 mod lines;
 
 ghost use Rattle.std.specs.Prelude.{◌≡◌};
-ghost use Rattle.load_lines.specs.Progress.{started, Writes};
+ghost use Rattle.load_lines.specs.Progress.{started, is_more, Writes};
 
 use call_text::LINE_ROOM;
 use line_text::texts::ROOM;
@@ -15,57 +15,56 @@ use traffic::Workload;
 // The most bytes of a call's line and its reply line.
 pub const BOTH_ROOM: usize = LINE_ROOM + ROOM;
 
-// What is carried from one part of the output to the next: the workload, the generator's state, the calls made (fresh counts), and the queue.
+// What is carried from one part of the output to the next: what was asked, the generator's state, the calls made (fresh counts), and the queue.
 #[derive(Clone, Copy)]
 pub struct Load {
-    pub bad: bool,
-    pub cells: u16,
-    pub calls: u16,
+    pub asked: Option<Workload>,
     pub state: u32,
     pub done: u32,
     pub queue: Queue,
 }
 
-// After a part of the output: the load, how much was written, and whether there is more.
+// After a part of the output: the load, and how much was written.
 #[derive(Clone, Copy)]
 pub struct Written {
     pub load: Load,
     pub written: usize,
-    pub more: bool,
 }
 
 impl Load {
-    pub fn start(workload: Workload) -> Load
-        ensures { result ≡ started workload }
+    pub fn start(asked: Option<Workload>) -> Load
+        ensures { result ≡ started asked }
     {
-        match workload {
-            Workload::Run(seed, cells, calls) => Load {
-                bad: false,
-                cells: cells,
-                calls: calls,
-                state: seed,
-                done: 0,
-                queue: Queue::empty(),
-            },
-            Workload::Bad => Load {
-                bad: true,
-                cells: 0,
-                calls: 0,
-                state: 0,
-                done: 0,
-                queue: Queue::empty(),
-            },
+        let state = match asked {
+            Some(workload) => workload.seed,
+            None => 0,
+        };
+        Load {
+            asked,
+            state,
+            done: 0,
+            queue: Queue::empty(),
         }
+    }
+
+    // Nothing is left to write once more lines are done than there are calls. What is no workload has one line, as a load of no calls has.
+    pub fn is_more(&self) -> bool
+        ensures { result ≡ is_more self.now }
+    {
+        let calls = match self.asked {
+            Some(workload) => workload.calls,
+            None => 0,
+        };
+        self.done <= u32::from(calls)
     }
 }
 
 // Makes calls as far as the buffer has room for one more with its reply.
 pub fn next(load: Load, table: &mut [u16], scratch: &mut [u16], out: &mut [u8]) -> Written
-    ensures { Writes load table.old scratch.old
-        result.load result.written result.more table.new scratch.new out.new }
+    ensures { Writes load table.old scratch.old result.load result.written table.new scratch.new out.new }
 {
-    if load.bad {
-        return bad_line(load, out);
+    match load.asked {
+        Some(workload) => serve_calls(load, workload, table, scratch, out),
+        None => bad_line(load, out),
     }
-    serve_calls(load, table, scratch, out)
 }

@@ -1,15 +1,14 @@
 // Calls drawn and served, each with its two lines.
-ghost use Rattle.std.specs.Prelude.{◌≡◌, true, false, List, ℕ};
-ghost use Rattle.load_lines.specs.Progress.{turn, load_of, is_more, Writes};
+ghost use Rattle.std.specs.Prelude.{◌≡◌, Some, None, List, ℕ};
+ghost use Rattle.load_lines.specs.Progress.{turn, Writes};
 
 use crate::{BOTH_ROOM, Load, Written};
-use base_ten::put::{MOST_DIGITS, put_word};
+use base_ten::put::put_word;
 use call_text::put_call_line;
-use line_text::texts::{count_up, number_text, put_line};
-use line_text::{Request, Verdict};
-use machine::Queue;
-use serving::{fresh_verdict, row_verdict, step_verdict};
-use traffic::{Drawn, draw_call};
+use line_text::Request;
+use line_text::texts::{Count, put_line};
+use serving::requests::serve;
+use traffic::{Drawn, Workload, draw_call};
 
 // The call after so many: fresh is the first.
 fn next_call(cells: u16, state: u32, done: u32) -> Drawn
@@ -18,105 +17,57 @@ fn next_call(cells: u16, state: u32, done: u32) -> Drawn
     if done == 0 {
         return Drawn {
             request: Request::Fresh(cells),
-            state: state,
+            state,
         };
     }
     draw_call(cells, state)
 }
 
-fn written_so(
-    bad: bool,
-    cells: u16,
-    calls: u16,
-    state: u32,
-    done: u32,
-    queue: Queue,
-    written: usize,
-) -> Written
-    ensures { (result.load ≡ load_of bad cells calls state done queue) × (result.written ≡ written) × (result.more ≡ is_more result.load) }
-{
-    Written {
-        load: Load {
-            bad: bad,
-            cells: cells,
-            calls: calls,
-            state: state,
-            done: done,
-            queue: queue,
-        },
-        written: written,
-        more: done <= calls as u32,
-    }
-}
-
 // The one line of an input that is no workload: with it all is done.
 pub fn bad_line(load: Load, out: &mut [u8]) -> Written
-    requires { load.bad ≡ true }
-    ensures { (t scratch : List ℕ) → Writes load t scratch result.load result.written result.more t scratch out.new }
+    requires { load.asked ≡ None }
+    ensures { (t scratch : List ℕ) → Writes load t scratch result.load result.written t scratch out.new }
 {
-    let cells = load.cells;
-    let calls = load.calls;
-    let state = load.state;
-    let done = load.done;
-    let queue = load.queue;
-    let all = calls as u32 + 1;
-    if 0 < done {
-        return written_so(true, cells, calls, state, all, queue, 0);
+    if 0 < load.done || out.len() < BOTH_ROOM {
+        return Written { load, written: 0 };
     }
-    if out.len() < BOTH_ROOM {
-        return written_so(true, cells, calls, state, done, queue, 0);
+    let written = put_word(out, 0, b"BAD\n");
+    Written {
+        load: Load { done: 1, ..load },
+        written,
     }
-    let end = put_word(out, 0, b"BAD\n");
-    written_so(true, cells, calls, state, all, queue, end)
 }
 
-// The loop serves a request itself, for the reason that a session's does: each function that is handed the queue costs a copy of it.
-pub fn serve_calls(load: Load, table: &mut [u16], scratch: &mut [u16], out: &mut [u8]) -> Written
-    requires { load.bad ≡ false }
-    ensures { Writes load table.old scratch.old
-        result.load result.written result.more table.new scratch.new out.new }
+pub fn serve_calls(
+    load: Load,
+    workload: Workload,
+    table: &mut [u16],
+    scratch: &mut [u16],
+    out: &mut [u8],
+) -> Written
+    requires { load.asked ≡ Some workload }
+    ensures { Writes load table.old scratch.old result.load result.written table.new scratch.new out.new }
 {
-    let cells = load.cells;
-    let calls = load.calls;
-    let mut state = load.state;
-    let mut done = load.done;
-    let mut queue = load.queue;
-    let mut number = [0; MOST_DIGITS];
-    let mut size = number_text(&mut number, done as u64);
+    let mut present = load;
+    let mut count = Count::new(u64::from(present.done));
     let mut written = 0;
-    while done <= calls as u32 {
+    while present.done <= u32::from(workload.calls) {
         if out.len() - written < BOTH_ROOM {
-            return written_so(false, cells, calls, state, done, queue, written);
+            return Written {
+                load: present,
+                written,
+            };
         }
-        let drawn = next_call(cells, state, done);
-        let asked = drawn.request;
-        state = drawn.state;
-        done += 1;
-        size = count_up(&mut number, size, done as u64);
-        written = put_call_line(out, written, asked);
-        let mut verdict = Verdict::Bad;
-        match asked {
-            Request::Bad => {}
-            Request::Fresh(c) => {
-                let reply = store::fresh(table, queue, c);
-                queue = reply.queue;
-                let answer = reply.answer;
-                verdict = fresh_verdict(answer);
-            }
-            Request::Row(call) => {
-                let reply = store::row(table, queue, call);
-                queue = reply.queue;
-                let answer = reply.answer;
-                verdict = row_verdict(answer);
-            }
-            Request::Step => {
-                let reply = store::step(table, queue, scratch);
-                queue = reply.queue;
-                let answer = reply.answer;
-                verdict = step_verdict(answer);
-            }
-        }
-        written = put_line(out, written, &number, size, done as u64, verdict);
+        let drawn = next_call(workload.cells, present.state, present.done);
+        present.state = drawn.state;
+        present.done += 1;
+        count.next();
+        written = put_call_line(out, written, drawn.request);
+        let verdict = serve(table, &mut present.queue, scratch, drawn.request);
+        written = put_line(out, written, &count, verdict);
     }
-    written_so(false, cells, calls, state, done, queue, written)
+    Written {
+        load: present,
+        written,
+    }
 }

@@ -46,47 +46,31 @@ impl Queue {
     }
 }
 
-// The questions, by what a "no" says; specs/Answers.antt gives the paper's number of each.
-#[derive(Clone, Copy)]
+// The questions, by what a "no" says, each with the paper's number.
+#[derive(Clone, Copy, PartialEq, Eq)]
 pub enum Refusal {
-    StoreOutOfRange,
-    ScratchTooShort,
-    NumberOutOfRange,
-    IllegalWord,
-    NotACell,
-    NotHeld,
-    QueueFull,
-    NoFreeCell,
-    HeldCountTooHigh,
-    TooManyPointers,
-    NotInNotation,
-    TooDeep,
-    BufferTooShort,
-    ClippedReading,
-    SeatOutOfRange,
+    StoreOutOfRange = 1,
+    ScratchTooShort = 2,
+    NumberOutOfRange = 3,
+    IllegalWord = 4,
+    NotACell = 5,
+    NotHeld = 6,
+    QueueFull = 7,
+    NoFreeCell = 8,
+    HeldCountTooHigh = 9,
+    TooManyPointers = 10,
+    NotInNotation = 11,
+    TooDeep = 12,
+    BufferTooShort = 13,
+    ClippedReading = 14,
+    SeatOutOfRange = 15,
 }
 
 impl Refusal {
     pub fn number(self) -> u16
         ensures { result ≡ refusal_number self }
     {
-        match self {
-            Refusal::StoreOutOfRange => 1,
-            Refusal::ScratchTooShort => 2,
-            Refusal::NumberOutOfRange => 3,
-            Refusal::IllegalWord => 4,
-            Refusal::NotACell => 5,
-            Refusal::NotHeld => 6,
-            Refusal::QueueFull => 7,
-            Refusal::NoFreeCell => 8,
-            Refusal::HeldCountTooHigh => 9,
-            Refusal::TooManyPointers => 10,
-            Refusal::NotInNotation => 11,
-            Refusal::TooDeep => 12,
-            Refusal::BufferTooShort => 13,
-            Refusal::ClippedReading => 14,
-            Refusal::SeatOutOfRange => 15,
-        }
+        self as u16
     }
 }
 
@@ -94,7 +78,7 @@ impl Refusal {
 pub type Asked = Result<(), Refusal>;
 
 // A row program's call with its operands, as a value.
-#[derive(Clone, Copy)]
+#[derive(Clone, Copy, PartialEq, Eq)]
 pub enum RowCall {
     Car(u16),
     Cdr(u16),
@@ -111,7 +95,7 @@ pub type RowAnswer = Result<u16, Refusal>;
 pub type FreshAnswer = Result<(), Refusal>;
 
 // What an accepted step did: nothing, since no packet waits, or it applied a packet of this kind and freed so many cells.
-#[derive(Clone, Copy)]
+#[derive(Clone, Copy, PartialEq, Eq)]
 pub enum Step {
     Idle,
     Applied { kind: u16, freed: u16 },
@@ -120,31 +104,25 @@ pub enum Step {
 pub type StepAnswer = Result<Step, Refusal>;
 
 // The audit's rules S1 to S5, by what each is about.
-#[derive(Clone, Copy)]
+#[derive(Clone, Copy, PartialEq, Eq)]
 pub enum Rule {
-    Cells,
-    FreeChain,
-    Packets,
-    Pointers,
-    Reached,
+    Cells = 1,
+    FreeChain = 2,
+    Packets = 3,
+    Pointers = 4,
+    Reached = 5,
 }
 
 impl Rule {
     pub fn number(self) -> u16
         ensures { result ≡ rule_number self }
     {
-        match self {
-            Rule::Cells => 1,
-            Rule::FreeChain => 2,
-            Rule::Packets => 3,
-            Rule::Pointers => 4,
-            Rule::Reached => 5,
-        }
+        self as u16
     }
 }
 
 // What an accepted audit found.
-#[derive(Clone, Copy)]
+#[derive(Clone, Copy, PartialEq, Eq)]
 pub enum Finding {
     Sound,
     Broken(Rule),

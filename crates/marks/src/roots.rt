@@ -6,26 +6,29 @@ ghost use Rattle.machine.specs.Reached.{is_root};
 ghost use Rattle.machine.specs.Facts.{TableShape};
 ghost use Rattle.machine.specs.ShortWay.{watched_of, stays_root};
 
+use machine::{NameCount, RootCount};
 use questions::is_cell;
-use queue::Packet;
+use queue::{Kind, Packet};
 
 // Whether a cell is a root.
+#[tactic(auto, unfolding(machine::specs::Reached::is_root, machine::specs::Reached::is_protected))]
 pub fn rooted(table: &[u16], index: usize) -> bool
     requires { table_length (suc index) ≤ length table.now }
     ensures { result ≡ is_root table.now index }
 {
-    0 < cells::root_count(table, index).0 || 0 < cells::name_count(table, index).0
+    0 < cells::count::<RootCount>(table, index).0 || 0 < cells::count::<NameCount>(table, index).0
 }
 
 // The word of a taken packet that tells whether anything can be freed.
-pub fn watched_of(kind: u16, a: u16, b: u16, c: u16) -> u16
-    ensures { result ≡ watched_of (kind_of kind) a b c }
+#[tactic(auto, unfolding(machine::specs::ShortWay::watched_of))]
+pub fn watched_of(packet: Packet) -> u16
+    ensures { result ≡ watched_of (kind_of packet.kind) packet.a packet.b packet.c }
 {
-    match kind {
-        Packet::READ | Packet::DOWN => a,
-        Packet::CONS => c,
-        Packet::REPLACE_LEFT | Packet::REPLACE_RIGHT => b,
-        _ => 0,
+    match packet.known_kind() {
+        Some(Kind::Read | Kind::Down) => packet.a,
+        Some(Kind::Cons) => packet.c,
+        Some(Kind::ReplaceLeft | Kind::ReplaceRight) => packet.b,
+        Some(Kind::Up) | None => 0,
     }
 }
 

@@ -6,7 +6,7 @@ use Prim.Native.Nat.{ℕ, ◌+◌, ◌-◌, ◌*◌, ◌≤◌, zero-le}
 use native.Mathlib.Omega.{arith}
 use lib.Dec.{leb, eqb}
 use borrow.Author.Tests.{leb-true, eqb-true}
-use Rattle.base_ten.specs.declared.Number.{Number}
+use Rattle.std.specs.Prelude.{Option, Some, None}
 use Rattle.base_ten.specs.Bytes.{space, digit_zero}
 use Rattle.base_ten.specs.Numbers.{is_digit, number_from, zero_alone, number_of}
 use Rattle.notation.specs.Trees.{largest_value}
@@ -30,30 +30,30 @@ pub record Digits (most : ℕ) (ds : List ℕ) (v : ℕ) : Type 0 where
   pub all : AllDigits ds
   pub within : v ≤ most
 
-from_digits : (most v : ℕ) (ds : List ℕ) (w : ℕ) → number_from most v ds ≡ Number.Value w → Digits most ds w
+from_digits : (most v : ℕ) (ds : List ℕ) (w : ℕ) → number_from most v ds ≡ Some w → Digits most ds w
 unfolding number_from
 from_digits most v [] w e = go (leb v most) refl e
   where
-    go : (t : Bool) → leb v most ≡ t → cond t (Number.Value v) Number.Nothing ≡ Number.Value w → Digits most [] w
+    go : (t : Bool) → leb v most ≡ t → cond t (Some v) None ≡ Some w → Digits most [] w
     go true l x = let same : v ≡ w = cc in record { all = tt; within = omega (arith, leb-true v most l) }
     go false l x = clash (cc)
 from_digits most v (d ∷ ds) w e = go (is_digit d) refl e (from_digits most (10 * v + (d - digit_zero)) ds w)
   where
-    go : (t : Bool) → is_digit d ≡ t → cond t (number_from most (10 * v + (d - digit_zero)) ds) Number.Nothing ≡ Number.Value w
-        → (number_from most (10 * v + (d - digit_zero)) ds ≡ Number.Value w → Digits most ds w) → Digits most (d ∷ ds) w
+    go : (t : Bool) → is_digit d ≡ t → cond t (number_from most (10 * v + (d - digit_zero)) ds) None ≡ Some w
+        → (number_from most (10 * v + (d - digit_zero)) ds ≡ Some w → Digits most ds w) → Digits most (d ∷ ds) w
     go true l x ih = let rest = ih x in record { all = (l, rest.all); within = rest.within }
     go false l x ih = clash (cc)
 
-pub number_is : (most : ℕ) (ds : List ℕ) (v : ℕ) → number_of most ds ≡ Number.Value v → Digits most ds v
+pub number_is : (most : ℕ) (ds : List ℕ) (v : ℕ) → number_of most ds ≡ Some v → Digits most ds v
 unfolding number_of
 number_is most [] v e = clash (cc)
 number_is most (d ∷ ds) v e = go (eqb d digit_zero) refl e
   where
-    alone : d ≡ digit_zero → (xs : List ℕ) → zero_alone xs ≡ Number.Value v → Digits most (d ∷ xs) v
+    alone : d ≡ digit_zero → (xs : List ℕ) → zero_alone xs ≡ Some v → Digits most (d ∷ xs) v
     alone z [] x = let same : 0 ≡ v = cc in record { all = (rw z, tt); within = rw (← same) zero-le }
     alone z (y ∷ xs) x = clash (cc)
 
-    go : (t : Bool) → eqb d digit_zero ≡ t → cond t (zero_alone ds) (number_from most 0 (d ∷ ds)) ≡ Number.Value v → Digits most (d ∷ ds) v
+    go : (t : Bool) → eqb d digit_zero ≡ t → cond t (zero_alone ds) (number_from most 0 (d ∷ ds)) ≡ Some v → Digits most (d ∷ ds) v
     go true l x = alone (eqb-true d digit_zero l) ds x
     go false l x = from_digits most 0 (d ∷ ds) v x
 
@@ -69,10 +69,10 @@ marks_run es [] text all h = marks_end es text h ∙ ap (λ (x : List ℕ). with
 marks_run es (d ∷ ds) text all h =
     rw all.0 (marks_run (es ++ (d ∷ [])) ds text all.1 h ∙ ap (λ (x : List ℕ). with_digits x (marks_of text)) (append_assoc es (d ∷ []) ds))
 
-with_number : (ds : List ℕ) (v : ℕ) (ms : List Mark) → number_of largest_value ds ≡ Number.Value v → with_digits ds ms ≡ token (number v) ∷ ms
+with_number : (ds : List ℕ) (v : ℕ) (ms : List Mark) → number_of largest_value ds ≡ Some v → with_digits ds ms ≡ token (number v) ∷ ms
 unfolding number_of
 with_number [] v ms e = clash (cc)
-with_number (d ∷ ds) v ms e = ap (λ (n : Number). number_mark n ∷ ms) e
+with_number (d ∷ ds) v ms e = ap (λ (n : Option ℕ). number_mark n ∷ ms) e
 
 -- what a text spells are its marks
 pub spelled : {text : List ℕ} {ts : List Token} → Spells text ts → marks_of text ≡ map token ts
@@ -93,14 +93,14 @@ module _ (text : List ℕ) (ms : List Mark) (h : no_digit text) (rest : (ts : Li
   digits_first [] ts e = rest ts e
   digits_first (d ∷ ds) ts e = go (number_of largest_value (d ∷ ds)) refl ts e
     where
-      go : (n : Number) → number_of largest_value (d ∷ ds) ≡ n → (us : List Token) → number_mark n ∷ ms ≡ map token us → Spells ((d ∷ ds) ++ text) us
-      go (Number.Value v) l [] x = clash (cc)
-      go (Number.Value v) l (u ∷ us) x =
+      go : (n : Option ℕ) → number_of largest_value (d ∷ ds) ≡ n → (us : List Token) → number_mark n ∷ ms ≡ map token us → Spells ((d ∷ ds) ++ text) us
+      go (Some v) l [] x = clash (cc)
+      go (Some v) l (u ∷ us) x =
           let same : u ≡ number v = cc in
           let others : ms ≡ map token us = cc in
           rw same (numbers (d ∷ ds) v l h (rest us others))
-      go Number.Nothing l [] x = clash (cc)
-      go Number.Nothing l (u ∷ us) x = clash (cc)
+      go None l [] x = clash (cc)
+      go None l (u ∷ us) x = clash (cc)
 
 -- or a byte that is no digit
 module _ (b : ℕ) (bs : List ℕ) (rest : (ts : List Token) → marks_of bs ≡ map token ts → Spells bs ts) where

@@ -4,8 +4,7 @@
 --   rest  ::= ) | . datum ) | datum rest
 --
 -- So a list's brackets hold nothing, or at least one element, and behind a dot exactly one part.
-use Rattle.std.specs.Prelude.{◌≡◌, false, List, [], ◌∷◌, ◌++◌, ℕ}
-use Rattle.base_ten.specs.declared.Number.{Number}
+use Rattle.std.specs.Prelude.{◌≡◌, false, List, [], ◌∷◌, ◌++◌, ℕ, Option, Some, None}
 use Rattle.base_ten.specs.Bytes.{space}
 use Rattle.base_ten.specs.Numbers.{is_digit, number_of}
 use Rattle.notation.specs.Trees.{Tree, nil, atom, pair, largest_value}
@@ -45,7 +44,7 @@ pub data Spells : List ℕ → List Token → Type 0 where
   closes : {text : List ℕ} {ts : List Token} → Spells text ts → Spells (close_byte ∷ text) (closing ∷ ts)
   dots : {text : List ℕ} {ts : List Token} → Spells text ts → Spells (dot_byte ∷ text) (dot ∷ ts)
   -- an atom's value in base ten without leading zeros
-  numbers : {text : List ℕ} {ts : List Token} (digits : List ℕ) (v : ℕ) → number_of largest_value digits ≡ Number.Value v → no_digit text → Spells text ts
+  numbers : {text : List ℕ} {ts : List Token} (digits : List ℕ) (v : ℕ) → number_of largest_value digits ≡ Some v → no_digit text → Spells text ts
       → Spells (digits ++ text) (number v ∷ ts)
 
 -- what tokens mean, as a datum and as the rest of a list whose first elements stand before them

@@ -1,6 +1,5 @@
 -- Parsing: from bytes to tokens, and from tokens to a tree with the open lists as a stack. `Recognises` says that this is the grammar.
-use Rattle.std.specs.Prelude.{Bool, true, false, cond, List, [], ◌∷◌, ◌++◌, ℕ, eqb}
-use Rattle.base_ten.specs.declared.Number.{Number}
+use Rattle.std.specs.Prelude.{Bool, true, false, cond, List, [], ◌∷◌, ◌++◌, ℕ, eqb, Option, Some, None}
 use Rattle.base_ten.specs.Bytes.{space}
 use Rattle.base_ten.specs.Numbers.{is_digit, number_of}
 use Rattle.notation.specs.Trees.{Tree, nil, atom, pair, largest_value}
@@ -11,9 +10,9 @@ pub data Mark : Type 0 where
   token : Token → Mark
   foreign : Mark
 
-abbrev pub number_mark : Number → Mark
-number_mark (Number.Value v) = token (number v)
-number_mark Number.Nothing = foreign
+abbrev pub number_mark : Option ℕ → Mark
+number_mark (Some v) = token (number v)
+number_mark None = foreign
 
 -- the digits before a mark, if there are any, are a number
 abbrev pub with_digits : List ℕ → List Mark → List Mark

@@ -10,7 +10,8 @@ use Rattle.notation.specs.Brackets.{Met, nothing, too_many, no_room, first_met}
 use Rattle.notation.proofs.BracketLaws.{met_none, met_enough}
 use Rattle.machine.specs.Texts.{opened, text_for}
 use Rattle.machine.proofs.TextLaws.{opened_enough}
-use Rattle.printer.specs.declared.Measured.{Measured}
+use Rattle.std.specs.Prelude.{Result, Ok, Err}
+use Rattle.printer.specs.declared.Unfit.{Unfit}
 use Rattle.printer.specs.Measures.{measured_by, measured, Exact, PutText}
 
 module _ (room : ℕ) (t : List ℕ) (w : ℕ) where
@@ -32,16 +33,16 @@ module _ (room : ℕ) (t : List ℕ) (w : ℕ) where
         same = sym (enough.text fits);
       }
 
-  pub measured_bytes : (n : ℕ) → Measured.Bytes n ≡ measured room (text_for room t w) → Fits n
+  pub measured_bytes : (n : ℕ) → Ok n ≡ measured room (text_for room t w) → Fits n
   measured_bytes n h = go (first_met room 0 (text_for room t w)) refl h
     where
-      go : (m : Met) → first_met room 0 (text_for room t w) ≡ m → Measured.Bytes n ≡ measured_by m (text_for room t w) → Fits n
+      go : (m : Met) → first_met room 0 (text_for room t w) ≡ m → Ok n ≡ measured_by m (text_for room t w) → Fits n
       go nothing e h = fits_exact n e (cc)
       go too_many e h = absurd (let z : ◌≡◌ {A = ℕ} 0 1 = cc in omega arith)
       go no_room e h = absurd (let z : ◌≡◌ {A = ℕ} 0 1 = cc in omega arith)
 
 -- a part of n bytes at the front of a buffer, filled
-module _ (t : List ℕ) (w : ℕ) (old : List ℕ) (n : ℕ) (h : Measured.Bytes n ≡ measured (length old) (text_for (length old) t w)) where
+module _ (t : List ℕ) (w : ℕ) (old : List ℕ) (n : ℕ) (h : Ok n ≡ measured (length old) (text_for (length old) t w)) where
   pub part_within : n ≤ length old
   part_within = (measured_bytes (length old) t w n h).within
 
@@ -51,7 +52,7 @@ module _ (t : List ℕ) (w : ℕ) (old : List ℕ) (n : ℕ) (h : Measured.Bytes
   pub part_exact : Exact (length (take n old)) t w
   part_exact = rw part_size (measured_bytes (length old) t w n h).exact
 
-  pub part_filled : (part : List ℕ) → part ≡ text_for (length (take n old)) t w → PutText t w old (part ++ drop n old) (Measured.Bytes n)
+  pub part_filled : (part : List ℕ) → part ≡ text_for (length (take n old)) t w → PutText t w old (part ++ drop n old) (Ok n)
   part_filled part e =
       let text : part ≡ text_for (length old) t w = e ∙ rw part_size (measured_bytes (length old) t w n h).same in
       record { exact = h; put = ap (λ (x : List ℕ). x ++ drop n old) text }

@@ -12,7 +12,8 @@ use Rattle.base_ten.specs.Put.{Put}
 use Rattle.notation.specs.Brackets.{most_open}
 use Rattle.notation.proofs.BracketLaws.{many_met, no_room_met}
 use Rattle.machine.specs.Texts.{text_for}
-use Rattle.printer.specs.declared.Measured.{Measured}
+use Rattle.std.specs.Prelude.{Result, Ok, Err}
+use Rattle.printer.specs.declared.Unfit.{Unfit}
 use Rattle.printer.specs.declared.walk.Piece.{Piece}
 use Rattle.printer.specs.declared.walk.Walk.{Walk}
 use Rattle.printer.specs.Pieces.{bytes_of}
@@ -30,17 +31,17 @@ module _ (room : ℕ) (t : List ℕ) (w : ℕ) where
 
   module _ (left : ℕ) (stop : Walk) (rests : List ℕ) (m : Measuring room t w left stop rests) where
     -- the text is measured, or what is met first
-    pub measured_all : items_of stop rests ≡ [] → Measured.Bytes (room - left) ≡ measured room (text_for room t w)
+    pub measured_all : items_of stop rests ≡ [] → Ok (room - left) ≡ measured room (text_for room t w)
     measured_all e =
         let all = written_all room t w m.done stop.depth (items_of stop rests) m.written e in
         let count : room - left ≡ length (text_for room t w) = omega (arith, m.count, ap length all.1) in
         rw (all.0, count)
 
-    pub measured_deep : Refused t stop.depth (items_of stop rests) → Measured.TooDeep ≡ measured room (text_for room t w)
+    pub measured_deep : Refused t stop.depth (items_of stop rests) → Err Unfit.TooDeep ≡ measured room (text_for room t w)
     measured_deep r = rw (written_too_deep room t w m.done stop.depth (items_of stop rests) m.written r)
 
     module _ (p : Piece) (after : Walk) (rests' : List ℕ) (step : Moved t stop.depth (items_of stop rests) p after rests') where
-      pub measured_without : left < length (bytes_of p) → Measured.NoRoom ≡ measured room (text_for room t w)
+      pub measured_without : left < length (bytes_of p) → Err Unfit.NoRoom ≡ measured room (text_for room t w)
       measured_without l =
           rw (written_without room t w m.done stop.depth (items_of stop rests) m.written p after rests' step (omega (arith, m.count)))
 

@@ -12,15 +12,15 @@ ghost use Rattle.printer.specs.Measures.{measured, Exact, PutText};
 use crate::pieces::{put_piece, width};
 use crate::walk::{MOST_OPEN, Step, next, start};
 
-// How many bytes a text has, or what is met first where it does not fit: a bracket too many, or a byte without room.
-#[derive(Clone, Copy)]
-pub enum Measured {
-    Bytes(usize),
+// What is met first in a text that does not fit: a bracket too many, or a byte without room.
+#[derive(Clone, Copy, PartialEq, Eq)]
+pub enum Unfit {
     TooDeep,
     NoRoom,
 }
 
-pub fn measure(table: &[u16], word: u16, room: usize) -> Measured
+// How many bytes a text has.
+pub fn measure(table: &[u16], word: u16, room: usize) -> Result<usize, Unfit>
     requires { table_length (capacity table.now) ≤ length table.now }
     ensures { result ≡ measured room (text_for room table.now word) }
 {
@@ -30,12 +30,12 @@ pub fn measure(table: &[u16], word: u16, room: usize) -> Measured
     loop {
         let step = next(table, &mut rests, walk);
         match step {
-            Step::Ended => return Measured::Bytes(room - left),
-            Step::TooDeep => return Measured::TooDeep,
+            Step::Ended => return Ok(room - left),
+            Step::TooDeep => return Err(Unfit::TooDeep),
             Step::Next(piece, after) => {
                 let n = width(piece);
                 if left < n {
-                    return Measured::NoRoom;
+                    return Err(Unfit::NoRoom);
                 }
                 left -= n;
                 walk = after;
@@ -66,17 +66,11 @@ pub fn fill(table: &[u16], word: u16, part: &mut [u8])
 }
 
 // The text into the front of a buffer. Where it does not fit, nothing is written.
-pub fn put_text(table: &[u16], word: u16, buffer: &mut [u8]) -> Measured
+pub fn put_text(table: &[u16], word: u16, buffer: &mut [u8]) -> Result<usize, Unfit>
     requires { table_length (capacity table.now) ≤ length table.now }
     ensures { PutText table.now word buffer.old buffer.new result }
 {
-    let measured = measure(table, word, buffer.len());
-    match measured {
-        Measured::Bytes(n) => {
-            fill(table, word, &mut buffer[..n]);
-            Measured::Bytes(n)
-        }
-        Measured::TooDeep => Measured::TooDeep,
-        Measured::NoRoom => Measured::NoRoom,
-    }
+    let n = measure(table, word, buffer.len())?;
+    fill(table, word, &mut buffer[..n]);
+    Ok(n)
 }

@@ -1,2 +1,3 @@
 -- Laws of the sums of waiting changes.
+pub mod Known
 pub mod Totals

@@ -4,7 +4,6 @@ use mathlib.Core.Bool.{Bool, true, false, cond}
 use Prim.Native.Nat.{ℕ, zero, ◌+◌, ◌%◌, ◌≤◌}
 use native.Mathlib.Omega.{arith}
 use native.Mathlib.Numerals.{add-one}
-use borrow.Author.Tests.{ne_eqb}
 use Rattle.machine.specs.declared.Queue.{Queue}
 use Rattle.machine.specs.Queue.{Packet, slots, slot, packets_from}
 use Rattle.machine.specs.Packets.{Counter, root, cell, Direction, plus, minus, Kind, reads, makes, replaces, raises, lowers, unknown, kind_of, changes_of, changes, moved_by, waiting_change}
@@ -69,11 +68,6 @@ module _ (a b x : ℕ) (da : a ≡ x → ⊥) (db : b ≡ x → ⊥) where
       let raised = none cell plus in
       let lowered = none cell minus in
       added s s kind a b x (kind_of kind) refl (omega arith, omega arith) (omega arith, omega arith) (omega arith, omega arith) (omega arith, omega arith)
-
--- a number that is no kind
-pub kind_unknown : (k : ℕ) → (k ≡ 1 → ⊥) → (k ≡ 2 → ⊥) → (k ≡ 3 → ⊥) → (k ≡ 4 → ⊥) → (k ≡ 5 → ⊥) → (k ≡ 6 → ⊥) → kind_of k ≡ unknown
-unfolding kind_of
-kind_unknown k a b c d e f = simp (ne_eqb k 1 a, ne_eqb k 2 b, ne_eqb k 3 c, ne_eqb k 4 d, ne_eqb k 5 e, ne_eqb k 6 f)
 
 -- no packets, and one packet more
 pub sums_none : (q : Queue) (j x : ℕ) (s : Sums) → s.held.raised ≡ 0 → s.held.lowered ≡ 0 → s.pointers.raised ≡ 0 → s.pointers.lowered ≡ 0 → SumsOf (packets_from q j zero) x s

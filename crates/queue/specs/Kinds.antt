@@ -20,6 +20,7 @@ abbrev pub known_as : Option Kind → Rattle.machine.specs.Packets.Kind
 known_as None = unknown
 known_as (Some k) = kind_as k
 
+-- its number, as a slot has it
 abbrev pub kind_number : Kind → ℕ
 kind_number Read = 1
 kind_number Cons = 2

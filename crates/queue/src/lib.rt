@@ -1,9 +1,9 @@
 // The packet queue: where its slots lie, the packet in a slot, and the sums of waiting changes of one cell.
 #![tactic(auto)]
 
-ghost use Rattle.std.specs.Prelude.{◌≡◌, List, ℕ, suc, ◌+◌, ◌%◌, ◌<◌, ◌≤◌};
+ghost use Rattle.std.specs.Prelude.{◌≡◌, suc, ◌+◌, ◌%◌, ◌<◌, ◌≤◌};
 ghost use Rattle.machine.specs.Range.{matching};
-ghost use Rattle.machine.specs.Queue.{slots, queue_of, slot, waiting};
+ghost use Rattle.machine.specs.Queue.{slots, placed, slot, waiting};
 ghost use Rattle.machine.specs.Words.{largest_word};
 ghost use Rattle.machine.specs.Packets.{kind_of};
 ghost use Rattle.queue.specs.Kinds.{known_as, kind_number};
@@ -57,18 +57,6 @@ impl Kind {
 }
 
 impl Packet {
-    pub const READ: u16 = 1;
-
-    pub const CONS: u16 = 2;
-
-    pub const REPLACE_LEFT: u16 = 3;
-
-    pub const UP: u16 = 4;
-
-    pub const DOWN: u16 = 5;
-
-    pub const REPLACE_RIGHT: u16 = 6;
-
     pub fn known_kind(self) -> Option<Kind>
         ensures { known_as result ≡ kind_of self.kind }
     {
@@ -143,9 +131,9 @@ pub struct Sums {
 
 // The packet in slot j.
 #[tactic(auto, unfolding(machine::specs::Queue::slot))]
-pub fn packet_at(queue: Queue, j: usize) -> Packet
+pub fn packet_at(queue: &Queue, j: usize) -> Packet
     requires { j < slots }
-    ensures { packet_of result ≡ slot queue j }
+    ensures { packet_of result ≡ slot queue.now j }
 {
     Packet {
         kind: queue.kinds[j],
@@ -196,17 +184,10 @@ fn with_changes(mut s: Sums, kind: u16, a: u16, b: u16, x: u16) -> Sums
     s
 }
 
-// The waiting changes of x, over the waiting slots only, by the queue's arrays of kinds, a and b: the words c play no part, whatever they are.
-pub fn waiting_changes<'q>(
-    kinds: &'q [u16; 64],
-    a: &'q [u16; 64],
-    b: &'q [u16; 64],
-    place: u16,
-    count: u16,
-    x: u16,
-) -> Sums
-    requires { (place < slots) × (count ≤ slots) }
-    ensures by_index { (c : List ℕ) → SumsOf (waiting (queue_of kinds.now a.now b.now c place count)) x result }
+// The changes of x that so many packets from the oldest on make.
+pub fn waiting_changes(queue: &Queue, count: u16, x: u16) -> Sums
+    requires { (queue.now.place < slots) × (count ≤ slots) }
+    ensures sums { SumsOf (waiting (placed queue.now queue.now.place count)) x result }
     ensures bounded { Bounded slots result }
 {
     let mut s = Sums {
@@ -214,8 +195,8 @@ pub fn waiting_changes<'q>(
         pointers: CounterSums::new(0, 0),
     };
     for i in 0..count {
-        let j = slot_after(place, i);
-        s = with_changes(s, kinds[j], a[j], b[j], x);
+        let j = slot_after(queue.place, i);
+        s = with_changes(s, queue.kinds[j], queue.a[j], queue.b[j], x);
     }
     s
 }

@@ -13,7 +13,9 @@ use Rattle.notation.specs.Trees.{pairs, largest}
 use Rattle.notation.specs.Parse.{Parsed, tree, none, parse, is_tree, meaning}
 use Rattle.notation.specs.Brackets.{too_deep}
 use Rattle.notation.proofs.Theorems.{values_read}
-use Rattle.scanner.specs.declared.Scanned.{Scanned}
+use Rattle.std.specs.Prelude.{Result, Ok, Err}
+use Rattle.scanner.specs.declared.Measure.{Measure}
+use Rattle.scanner.specs.declared.Fault.{Fault}
 use Rattle.notation.specs.Grammar.{most_text}
 use Rattle.scanner.specs.Scans.{judged, scan_of}
 use Rattle.machine.specs.declared.Queue.{Queue}
@@ -30,7 +32,7 @@ use Rattle.machine.specs.Questions.{first_no, refused_by, in_range, in_notation,
 use Rattle.machine.specs.Answers.{refusal_number, asked_number}
 use Rattle.machine.proofs.Answers.{refusal_some, asked_no, asked_yes}
 use Rattle.reader.specs.Builds.{Readable, Builds}
-use Rattle.reader.specs.Called.{slots_for, chain_has, pairs_number, tree_number, read_questions, read_outcome, ReadCalled}
+use Rattle.reader.specs.Called.{slots_for, chain_has, pairs_number, tree_number, read_questions, read_outcome, ReadCalled, fault_number}
 use Rattle.reader.proofs.StorableLaws.{atoms_stored}
 
 -- following the chain
@@ -66,10 +68,9 @@ module _ (t : List ℕ) (count n v : ℕ) where
   stored_no e = rw e
 
 -- the first "no" from question 11 on, by what the scan finds
-scanned_number : List ℕ → ℕ → Scanned → ℕ
-scanned_number t count Scanned.Outside = 11
-scanned_number t count Scanned.TooDeep = 12
-scanned_number t count (Scanned.Tree n v) = tree_number t count n v
+scanned_number : List ℕ → ℕ → Result Measure Fault → ℕ
+scanned_number t count (Err f) = fault_number f
+scanned_number t count (Ok m) = tree_number t count m.pairs m.largest
 
 -- a question that is not refused
 yes_rest : (b : Bool) (n rest : ℕ) → 0 ≡ refused_by b (suc n) rest → (b ≡ true) × (0 ≡ rest)
@@ -87,13 +88,13 @@ module _ (t : List ℕ) (q : Queue) (text : List ℕ) where
   scanned = go (parse text) refl (leb (length text) most_text)
     where
       by_tests : (short deep storable : Bool) (n v : ℕ) → storable ≡ may_be_stored (first_atom + v)
-          → scanned_number t q.count (cond short (cond deep Scanned.TooDeep (Scanned.Tree n v)) Scanned.Outside)
+          → scanned_number t q.count (cond short (cond deep (Err Fault.TooDeep) (Ok (record { pairs = n; largest = v }))) (Err Fault.Outside))
           ≡ refused_by (short && true) 11 (refused_by (not deep) 12 (refused_by storable 14 (pairs_number t q.count n)))
       by_tests false deep storable n v e = refl
       by_tests true true storable n v e = refl
       by_tests true false storable n v e = rw e
 
-      go : (p : Parsed) → parse text ≡ p → (short : Bool) → scanned_number t q.count (cond short (judged text p) Scanned.Outside)
+      go : (p : Parsed) → parse text ≡ p → (short : Bool) → scanned_number t q.count (cond short (judged text p) (Err Fault.Outside))
           ≡ refused_by (short && is_tree p) 11 (refused_by (not (too_deep 0 text)) 12 (refused_by (atoms_storable (meaning p)) 14 (pairs_number t q.count (pairs (meaning p)))))
       go (tree u) e short = by_tests short (too_deep 0 text) (atoms_storable u) (pairs u) (largest u) (atoms_stored u (values_read text u e))
       go none e true = refl
@@ -105,22 +106,18 @@ module _ (t : List ℕ) (q : Queue) (text : List ℕ) where
   asked_first e = rw e
 
   -- it says "yes", and the text is scanned
-  module _ (yes : in_range t q ≡ true) {s : Scanned} (scan : s ≡ scan_of text) where
+  module _ (yes : in_range t q ≡ true) {s : Result Measure Fault} (scan : s ≡ scan_of text) where
     asked_scan : scanned_number t q.count s ≡ first_no (read_questions t q text)
     unfolding first_no read_questions early
     asked_scan = rw (scan, yes) scanned
 
-    pub asked_outside : s ≡ Scanned.Outside → 11 ≡ first_no (read_questions t q text)
+    pub asked_fault : (f : Fault) → s ≡ Err f → fault_number f ≡ first_no (read_questions t q text)
     unfolding scanned_number
-    asked_outside e = rw e at asked_scan
+    asked_fault f e = rw e at asked_scan
 
-    pub asked_deep : s ≡ Scanned.TooDeep → 12 ≡ first_no (read_questions t q text)
+    pub asked_tree : (m : Measure) → s ≡ Ok m → tree_number t q.count m.pairs m.largest ≡ first_no (read_questions t q text)
     unfolding scanned_number
-    asked_deep e = rw e at asked_scan
-
-    pub asked_tree : (n v : ℕ) → s ≡ Scanned.Tree n v → tree_number t q.count n v ≡ first_no (read_questions t q text)
-    unfolding scanned_number
-    asked_tree n v e = rw e at asked_scan
+    asked_tree m e = rw e at asked_scan
 
   -- a question says "no"
   pub read_refused : (a : Asked) (f : Refusal) → asked_number a ≡ first_no (read_questions t q text) → a ≡ Err f → ReadCalled t q text (Err f) t q

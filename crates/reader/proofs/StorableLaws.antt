@@ -14,7 +14,9 @@ use Rattle.notation.specs.Brackets.{too_deep}
 use Rattle.notation.proofs.MarkLaws.{clash}
 use Rattle.notation.proofs.LargestLaws.{largest_within}
 use Rattle.notation.proofs.Theorems.{values_read}
-use Rattle.scanner.specs.declared.Scanned.{Scanned}
+use Rattle.std.specs.Prelude.{Result, Ok, Err}
+use Rattle.scanner.specs.declared.Measure.{Measure}
+use Rattle.scanner.specs.declared.Fault.{Fault}
 use Rattle.scanner.specs.Scans.{judged, scan_of}
 use Rattle.machine.specs.Words.{first_atom, clip, may_be_stored}
 use Rattle.machine.specs.Texts.{atoms_storable}
@@ -43,15 +45,15 @@ pub atoms_stored : (t : Tree) → Values t → atoms_storable t ≡ may_be_store
 atoms_stored t h = atoms_below t h ∙ sym (value_stored (largest t) (largest_within t h))
 
 -- the value that a scan finds is an atom's
-pub found_within : (text : List ℕ) (n v : ℕ) → scan_of text ≡ Scanned.Tree n v → v ≤ largest_value
+pub found_within : (text : List ℕ) (m : Measure) → scan_of text ≡ Ok m → m.largest ≤ largest_value
 unfolding scan_of
-found_within text n v e = go (leb (length text) most_text) (parse text) refl e
+found_within text m e = go (leb (length text) most_text) (parse text) refl e
   where
-    by_depth : (t : Tree) → Values t → (deep : Bool) → cond deep Scanned.TooDeep (Scanned.Tree (pairs t) (largest t)) ≡ Scanned.Tree n v → v ≤ largest_value
+    by_depth : (t : Tree) → Values t → (deep : Bool) → cond {A = Result Measure Fault} deep (Err Fault.TooDeep) (Ok (record { pairs = pairs t; largest = largest t })) ≡ Ok m → m.largest ≤ largest_value
     by_depth t h true x = clash (cc)
-    by_depth t h false x = let same : largest t ≡ v = cc in omega (arith, largest_within t h)
+    by_depth t h false x = let same : largest t ≡ m.largest = cc in omega (arith, largest_within t h)
 
-    go : (short : Bool) (p : Parsed) → parse text ≡ p → cond short (judged text p) Scanned.Outside ≡ Scanned.Tree n v → v ≤ largest_value
+    go : (short : Bool) (p : Parsed) → parse text ≡ p → cond {A = Result Measure Fault} short (judged text p) (Err Fault.Outside) ≡ Ok m → m.largest ≤ largest_value
     go false p d x = clash (cc)
     go true none d x = clash (cc)
     go true (tree t) d x = by_depth t (values_read text t d) (too_deep 0 text) x

@@ -12,7 +12,13 @@ use Rattle.machine.specs.Texts.{build_by}
 use Rattle.machine.specs.Questions.{Question, ask, refused_by, first_no, early, text_pairs, slots_empty}
 use Rattle.machine.specs.Machine.{refused_or}
 use Rattle.machine.specs.Answers.{row_reply}
+use Rattle.scanner.specs.declared.Fault.{Fault}
 use Rattle.reader.specs.Builds.{code_cons}
+
+-- the question that a text without a tree fails: 11 outside the notation, 12 too deep
+abbrev pub fault_number : Fault → ℕ
+fault_number Fault.Outside = 11
+fault_number Fault.TooDeep = 12
 
 -- 7. there is an empty slot for each of n pairs, where so many packets wait
 unfoldable pub slots_for : ℕ → ℕ → Bool

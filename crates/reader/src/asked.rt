@@ -5,11 +5,11 @@ ghost use Rattle.machine.specs.Table.{first_free};
 ghost use Rattle.machine.specs.Queue.{slots};
 ghost use Rattle.machine.specs.Facts.{TableShape};
 ghost use Rattle.machine.specs.Questions.{first_no};
-ghost use Rattle.machine.specs.Answers.{asked_number};
-ghost use Rattle.reader.specs.Called.{chain_has, pairs_number, tree_number, read_questions};
+ghost use Rattle.machine.specs.Answers.{refusal_number, asked_number};
+ghost use Rattle.reader.specs.Called.{chain_has, pairs_number, tree_number, fault_number, read_questions};
 
 use machine::{Asked, FIRST_ATOM, Queue, Refusal};
-use scanner::Scanned;
+use scanner::Fault;
 
 // The free chain has n cells: it is followed that far, whatever the table is.
 fn chain_has(table: &[u16], n: u16) -> bool
@@ -54,6 +54,16 @@ fn tree_asked(table: &[u16], count: u16, pairs: u16, largest: u16) -> Asked
     pairs_asked(table, count, pairs)
 }
 
+// Questions 11 and 12, which a text without a tree fails.
+fn refusal(fault: Fault) -> Refusal
+    ensures { refusal_number result ≡ fault_number fault }
+{
+    match fault {
+        Fault::Outside => Refusal::NotInNotation,
+        Fault::TooDeep => Refusal::TooDeep,
+    }
+}
+
 // All of them: 1, 11, 12, 14, 7 and 8.
 pub fn text_asked(table: &[u16], queue: &Queue, text: &[u8]) -> Asked
     ensures { asked_number result ≡ first_no (read_questions table.now queue.now text.now) }
@@ -63,8 +73,7 @@ pub fn text_asked(table: &[u16], queue: &Queue, text: &[u8]) -> Asked
     }
     let scanned = scanner::scan(text);
     match scanned {
-        Scanned::Outside => Err(Refusal::NotInNotation),
-        Scanned::TooDeep => Err(Refusal::TooDeep),
-        Scanned::Tree { pairs, largest } => tree_asked(table, queue.count, pairs, largest),
+        Ok(tree) => tree_asked(table, queue.count, tree.pairs, tree.largest),
+        Err(fault) => Err(refusal(fault)),
     }
 }

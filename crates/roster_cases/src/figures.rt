@@ -3,7 +3,8 @@ ghost use Rattle.std.specs.Prelude.{◌≡◌, suc, ◌≤◌, length};
 ghost use Rattle.machine.specs.Table.{root_count, table_length, word_at};
 ghost use Rattle.roster_cases.specs.Figures.{cells_of, root_counts, root_count_of, used_cells};
 
-use machine::{AuditAnswer, Finding, Queue};
+use machine::{AuditAnswer, Finding, RootCount};
+use state_lines::Store;
 use std::io;
 
 // How many cells a table says that it has; none where it is too short for them.
@@ -24,20 +25,17 @@ fn root_count_at(table: &[u16], index: usize) -> u64
     requires { table_length (suc index) ≤ length table.now }
     ensures { (result ≡ word_at table.now index root_count) × (result ≤ 65535) }
 {
-    let count = cells::root_count(table, index);
-    count.0 as u64
+    u64::from(cells::count::<RootCount>(table, index).0)
 }
 
 // The sum of the root counts of all cells.
 fn root_counts(table: &[u16]) -> u64
     ensures { result ≡ root_counts table.now }
 {
-    let c = cells_of(table) as usize;
+    let c = cells_of(table);
     let mut sum: u64 = 0;
-    let mut i: usize = 0;
-    while i < c {
+    for i in 0..usize::from(c) {
         sum += root_count_at(table, i);
-        i += 1;
     }
     sum
 }
@@ -46,68 +44,50 @@ fn root_counts(table: &[u16]) -> u64
 fn root_count_of(table: &[u16], word: u16) -> u64
     ensures { result ≡ root_count_of table.now word }
 {
-    if word < 1 {
-        return 0;
+    if 0 < word && word <= cells_of(table) {
+        root_count_at(table, usize::from(word - 1))
+    } else {
+        0
     }
-    if cells_of(table) < word {
-        return 0;
-    }
-    root_count_at(table, (word - 1) as usize)
 }
 
 // How many cells are in use.
 fn cells_in_use(table: &[u16]) -> u64
     ensures { result ≡ used_cells table.now }
 {
-    let c = cells_of(table) as usize;
+    let c = cells_of(table);
     let mut n: u64 = 0;
-    let mut i: usize = 0;
-    while i < c {
+    for i in 0..usize::from(c) {
         if cells::in_use(table, i) {
             n += 1;
         }
-        i += 1;
     }
     n
 }
 
-// An audit's reply as a number: 0 where the store is sound, 9 where the audit is refused, else the number of the rule that is broken.
-fn verdict(answer: AuditAnswer) -> u64 {
+// An audit's reply as the figure that the lists write: 0 where the store is sound, 9 where the audit is refused, else the number of the rule that is broken.
+fn verdict(answer: AuditAnswer) -> u16 {
     match answer {
         Ok(Finding::Sound) => 0,
-        Ok(Finding::Broken(rule)) => rule.number() as u64,
+        Ok(Finding::Broken(rule)) => rule.number(),
         Err(_) => 9,
     }
 }
 
-// 0 where the word is nil, else 1.
-fn kind_of(word: u16) -> u64 {
-    if word == 0 {
-        return 0;
-    }
-    1
-}
-
-// Writes the line `A v p h w k u`. Gives how many numbers it has. The audit is lent a scratch of the program's own.
+// Writes the line `A v p h w k u`. The audit is lent a scratch of the program's own.
 pub fn write_figures<W: io::Write>(
     writer: &mut W,
-    table: &[u16],
-    queue: Queue,
+    store: &Store,
     word: u16,
     audit_scratch: &mut [u16],
-) -> usize
-    ensures { result ≡ 6 }
-{
-    let answer = store::audit(table, queue, audit_scratch);
-    let figures = [
-        verdict(answer),
-        queue.count as u64,
-        root_counts(table),
-        root_count_of(table, word),
-        kind_of(word),
-        cells_in_use(table),
-    ];
-    let n = state_lines::write_numbers(writer, b"A", &figures);
-    state_lines::write_name(writer, b"\n");
-    n
+) {
+    let table = store.table();
+    let queue = *store.queue();
+    let v = verdict(store::audit(table, queue, audit_scratch));
+    let p = queue.count;
+    let h = root_counts(table);
+    let w = root_count_of(table, word);
+    let k = u8::from(word != 0);
+    let u = cells_in_use(table);
+    let _ = writeln!(writer, "A {v} {p} {h} {w} {k} {u}");
 }

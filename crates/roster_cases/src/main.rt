@@ -4,283 +4,201 @@
 mod asking;
 mod figures;
 
-ghost use Rattle.std.specs.Prelude.{◌≡◌, ◌≤◌, length};
-ghost use Rattle.state_lines.specs.Sizes.{Fits};
-
-use asking::{SET, early_number};
+use asking::asked;
 use figures::write_figures;
 use machine::{Queue, Refusal};
 use readings::{Replied, RosterAnswer};
-use state_lines::{Call, SCRATCH, Store, TABLE};
+use state_lines::{Call, Numbers, Runs, SCRATCH, Store};
 use std::io;
 
-// The code of a fresh, and the number of a set's refusal for want of a free cell.
-const FRESH: u16 = 0;
+// The calls with their operands.
+#[derive(Clone, Copy)]
+pub enum RosterCall {
+    Fresh(u16),
+    Set { seat: u16, reading: u16 },
+    LookUp(u16),
+    Remove(u16),
+    Count(u16),
+}
 
-const NO_FREE_CELL: u16 = 8;
+// A code that no call has is refused.
+impl TryFrom<Call> for RosterCall {
+    type Error = Refusal;
 
-// The store and the roster's word.
-#[derive(Drop)]
-struct Roster {
-    store: Store,
-    word: u16,
+    fn try_from(call: Call) -> Result<RosterCall, Refusal> {
+        let Call { code, p, q, .. } = call;
+        match code {
+            0 => Ok(RosterCall::Fresh(p)),
+            1 => Ok(RosterCall::Set {
+                seat: p,
+                reading: q,
+            }),
+            2 => Ok(RosterCall::LookUp(p)),
+            3 => Ok(RosterCall::Remove(p)),
+            4 => Ok(RosterCall::Count(p)),
+            _ => Err(Refusal::NumberOutOfRange),
+        }
+    }
 }
 
 // Where fresh is accepted the roster's word becomes nil.
 fn fresh(table: &mut [u16], queue: Queue, word: u16, c: u16) -> Replied {
-    let reply = store::fresh(table, queue, c);
-    let answer = reply.answer;
-    let next = reply.queue;
-    match answer {
+    let done = store::fresh(table, queue, c);
+    let queue = done.queue;
+    match done.answer {
         Ok(()) => Replied {
             answer: Ok(Some(0)),
-            queue: next,
+            queue,
             word: 0,
         },
         Err(refusal) => Replied {
             answer: Err(refusal),
-            queue: next,
-            word,
-        },
-    }
-}
-
-fn make_call(
-    table: &mut [u16],
-    queue: Queue,
-    word: u16,
-    scratch: &mut [u16],
-    call: Call,
-) -> Replied {
-    let code = call.code;
-    match code {
-        0 => fresh(table, queue, word, call.p),
-        1 => roster::set(table, queue, word, scratch, call.p, call.q),
-        2 => roster::look_up(table, queue, word, scratch, call.p),
-        3 => roster::remove(table, queue, word, scratch, call.p),
-        4 => roster::count(table, queue, word, scratch, call.p),
-        _ => Replied {
-            answer: Err(Refusal::NumberOutOfRange),
             queue,
             word,
         },
     }
 }
 
+fn make(
+    call: RosterCall,
+    table: &mut [u16],
+    queue: Queue,
+    word: u16,
+    scratch: &mut [u16],
+) -> Replied {
+    match call {
+        RosterCall::Fresh(c) => fresh(table, queue, word, c),
+        RosterCall::Set { seat, reading } => {
+            roster::set(table, queue, word, scratch, seat, reading)
+        }
+        RosterCall::LookUp(seat) => roster::look_up(table, queue, word, scratch, seat),
+        RosterCall::Remove(seat) => roster::remove(table, queue, word, scratch, seat),
+        RosterCall::Count(threshold) => roster::count(table, queue, word, scratch, threshold),
+    }
+}
+
+// Makes the call that the numbers are on the store and the roster's word.
+fn take(call: Call, store: &mut Store, word: &mut u16) -> RosterAnswer {
+    let before = *word;
+    match RosterCall::try_from(call) {
+        Ok(call) => {
+            let (answer, after) = store.call(|table, queue, scratch| {
+                let replied = make(call, table, queue, before, scratch);
+                ((replied.answer, replied.word), replied.queue)
+            });
+            *word = after;
+            answer
+        }
+        Err(refusal) => Err(refusal),
+    }
+}
+
 fn write_answer<W: io::Write>(writer: &mut W, answer: RosterAnswer) {
-    match answer {
-        Ok(Some(value)) => {
-            state_lines::write_numbers(writer, b" OK", &[value as u64]);
-        }
-        Ok(None) => {
-            state_lines::write_name(writer, b" ABSENT");
-        }
-        Err(refusal) => {
-            state_lines::write_numbers(writer, b" NO", &[refusal.number() as u64]);
-        }
-    }
-    state_lines::write_name(writer, b"\n");
+    let _ = match answer {
+        Ok(Some(value)) => writeln!(writer, " OK {value}"),
+        Ok(None) => writeln!(writer, " ABSENT"),
+        Err(refusal) => writeln!(writer, " NO {}", refusal.number()),
+    };
 }
 
-// Every refusal but 8 changes nothing.
+// Every refusal but that for want of a free cell changes nothing.
 fn changes_nothing(answer: RosterAnswer) -> bool {
-    match answer {
-        Ok(Some(_)) => false,
-        Ok(None) => false,
-        Err(refusal) => refusal.number() != NO_FREE_CELL,
-    }
-}
-
-fn write_comparison<W: io::Write>(writer: &mut W, before: u64, after: u64, word: u16, held: u16) {
-    if before == after {
-        if word == held {
-            state_lines::write_name(writer, b"SAME\n");
-            return;
-        }
-    }
-    state_lines::write_name(writer, b"MOVED\n");
+    matches!(answer, Err(refusal) if refusal != Refusal::NoFreeCell)
 }
 
 // A call that the papers decide. Whether table, queue and scratch are as before is told by the checksum of the store, the same for the same words and hardly
 // ever for others; the roster's word is compared itself.
 fn decided<W: io::Write>(
     writer: &mut W,
-    table: &mut [u16],
-    queue: Queue,
-    word: u16,
-    scratch: &mut [u16],
-    audit_scratch: &mut [u16],
     call: Call,
-) -> Replied {
-    let before = state_lines::checksum_of(table, queue, scratch);
-    let replied = make_call(table, queue, word, scratch, call);
-    let answer = replied.answer;
-    let next = replied.queue;
-    let held = replied.word;
+    store: &mut Store,
+    word: &mut u16,
+    audit_scratch: &mut [u16],
+) {
+    let sum = store.checksum();
+    let held = *word;
+    let answer = take(call, store, word);
+    let _ = write!(writer, "R {call}");
     write_answer(writer, answer);
     if changes_nothing(answer) {
-        let after = state_lines::checksum_of(table, next, scratch);
-        write_comparison(writer, before, after, word, held);
+        let same = sum == store.checksum() && held == *word;
+        let _ = writer.write_all(if same { b"SAME\n" } else { b"MOVED\n" });
     } else {
-        write_figures(writer, table, next, held, audit_scratch);
-        state_lines::write_runs(writer, b"S", scratch);
-        state_lines::write_name(writer, b"\n");
+        write_figures(writer, store, *word, audit_scratch);
+        let _ = writeln!(writer, "S {}", Runs(store.scratch()));
     }
-    replied
 }
 
 // What may come of a call that the papers don't decide: of a fresh anything; where one of the early questions refuses the call, that refusal; past them any
 // value, absent, and 8 of a set.
-fn is_allowed(code: u16, early: u16, answer: RosterAnswer) -> bool {
-    if code == FRESH {
-        return true;
-    }
-    match answer {
-        Ok(Some(_)) => early == 0,
-        Ok(None) => early == 0,
-        Err(refusal) => {
-            if early != 0 {
-                return refusal.number() == early;
+fn is_allowed(call: RosterCall, early: Result<(), Refusal>, answer: RosterAnswer) -> bool {
+    match call {
+        RosterCall::Fresh(_) => true,
+        _ => match (early, answer) {
+            (Ok(()), Err(refusal)) => {
+                matches!(call, RosterCall::Set { .. }) && refusal == Refusal::NoFreeCell
             }
-            if code != SET {
-                return false;
-            }
-            refusal.number() == NO_FREE_CELL
-        }
+            (Ok(()), _) => true,
+            (Err(early), Err(refusal)) => refusal == early,
+            (Err(_), _) => false,
+        },
     }
 }
 
 // A call that the papers don't decide. An answer that may not come of it is written as it is, so that the output differs from the reference's.
-fn undecided<W: io::Write>(
-    writer: &mut W,
-    table: &mut [u16],
-    queue: Queue,
-    word: u16,
-    scratch: &mut [u16],
-    call: Call,
-) -> Replied {
-    let early = early_number(table, queue, scratch, call);
-    let replied = make_call(table, queue, word, scratch, call);
-    let answer = replied.answer;
-    if is_allowed(call.code, early, answer) {
-        state_lines::write_name(writer, b" UNDECIDED\n");
-    } else {
-        write_answer(writer, answer);
-    }
-    replied
-}
-
-// Makes a call, and writes what came of it.
-fn answer<W: io::Write>(
-    writer: &mut W,
-    table: &mut [u16],
-    queue: Queue,
-    word: u16,
-    scratch: &mut [u16],
-    audit_scratch: &mut [u16],
-    call: Call,
-) -> Replied {
-    state_lines::write_operands(writer, call);
-    if call.letter == b'U' {
-        return undecided(writer, table, queue, word, scratch, call);
-    }
-    decided(writer, table, queue, word, scratch, audit_scratch, call)
-}
-
-// Lends a call the words that are the table and those that are the scratch.
-fn take_call<W: io::Write>(
-    writer: &mut W,
-    table: &mut [u16],
-    scratch: &mut [u16],
-    audit_scratch: &mut [u16],
-    roster: Roster,
-    call: Call,
-) -> Roster
-    requires { (roster.store.table ≤ length table.old) × (roster.store.scratch ≤ length scratch.old) }
-    ensures { (result.store.table ≡ roster.store.table) × (result.store.scratch ≡ roster.store.scratch) }
-{
-    let store = roster.store;
-    let n = store.table;
-    let m = store.scratch;
-    let replied = answer(
-        writer,
-        &mut table[..n],
-        store.queue,
-        roster.word,
-        &mut scratch[..m],
-        audit_scratch,
+fn undecided<W: io::Write>(writer: &mut W, call: Call, store: &mut Store, word: &mut u16) {
+    let _ = write!(writer, "U {call}");
+    let early = RosterCall::try_from(call).map(|call| (
         call,
-    );
-    let queue = replied.queue;
-    let next = Store {
-        table: n,
-        scratch: m,
-        queue,
-    };
-    Roster {
-        store: next,
-        word: replied.word,
+        asked(store.table(), store.queue(), store.scratch(), call),
+    ));
+    let answer = take(call, store, word);
+    match early {
+        Ok((call, early)) if is_allowed(call, early, answer) => {
+            let _ = writeln!(writer, " UNDECIDED");
+        }
+        _ => write_answer(writer, answer),
     }
 }
 
-// The roster's word after a line that is no call.
-fn word_after(letter: u8, line: &[u16], word: u16) -> u16 {
-    match letter {
-        b'T' => 0,
-        b'V' => state_lines::number_at(line, 1),
-        _ => word,
-    }
-}
-
+// A line: a call, the roster's word, or what changes the store; a new store's word is nil.
 fn take_line<W: io::Write>(
     writer: &mut W,
     letter: u8,
-    line: &[u16],
-    table: &mut [u16; TABLE],
-    scratch: &mut [u16; SCRATCH],
-    audit_scratch: &mut [u16; SCRATCH],
-    roster: Roster,
-) -> Roster
-    requires { Fits roster.store }
-    ensures { Fits result.store }
-{
+    numbers: &[u16],
+    store: &mut Store,
+    word: &mut u16,
+    audit_scratch: &mut [u16],
+) {
     match letter {
-        b'R' | b'U' => {
-            let call = state_lines::call_of(letter, line);
-            take_call(writer, table, scratch, audit_scratch, roster, call)
+        b'R' => decided(writer, Call::from(numbers), store, word, audit_scratch),
+        b'U' => undecided(writer, Call::from(numbers), store, word),
+        b'V' => *word = numbers.first().copied().unwrap_or(0),
+        b'T' => {
+            store.change(letter, numbers);
+            *word = 0;
         }
-        _ => {
-            let store = roster.store;
-            let next = state_lines::changed(letter, line, table, scratch, store);
-            Roster {
-                store: next,
-                word: word_after(letter, line, roster.word),
-            }
-        }
+        _ => store.change(letter, numbers),
     }
 }
 
 fn run<W: io::Write>(writer: &mut W, input: &[u8]) {
-    let mut line = state_lines::line_array();
-    let mut table = state_lines::table_array();
-    let mut scratch = state_lines::scratch_array();
-    let mut audit_scratch = state_lines::scratch_array();
-    let store = state_lines::no_store();
-    let mut roster = Roster { store, word: 0 };
-    let mut at: usize = 0;
-    while at < input.len() {
-        let read = state_lines::read_line(input, at, &mut line);
-        let n = read.count;
-        roster = take_line(
+    let mut numbers = Numbers::new();
+    let mut store = Store::new();
+    let mut word = 0;
+    let mut audit_scratch = [0; SCRATCH];
+    let mut rest = input;
+    while let Some((letter, next)) = numbers.read(rest) {
+        let line = numbers.as_slice();
+        take_line(
             writer,
-            read.letter,
-            &line[..n],
-            &mut table,
-            &mut scratch,
+            letter,
+            line,
+            &mut store,
+            &mut word,
             &mut audit_scratch,
-            roster,
         );
-        at = read.next;
+        rest = next;
     }
 }
 

@@ -22,7 +22,8 @@ use Rattle.machine.specs.Answers.{filled_part}
 use Rattle.machine.specs.Promise.{Promise, TextHanded}
 use Rattle.rule_lines.specs.Answers.{no, answer_of, answer_line, most_answer, room}
 use Rattle.rule_lines.specs.Stores.{Cleans, PutsText, Answers, AnswersHeld}
-use Rattle.rule_lines.specs.Kept.{kept_bytes, Keeps}
+use Rattle.line_text.specs.Kept.{Keeps}
+use Rattle.rule_lines.specs.Kept.{kept_bytes}
 use Rattle.rule_lines.proofs.TextLaws.{clean_reads, writes_back}
 
 -- what is written of a word that was read is the answer to its line

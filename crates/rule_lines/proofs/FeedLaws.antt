@@ -1,9 +1,10 @@
 -- Lines one after the other, and the end of the input.
-use mathlib.Core.Path.{◌≡◌, refl, sym, ap, ◌∙◌}
-use mathlib.Core.Bool.{true, false, true≢false, false≢true}
+use mathlib.Core.Path.{◌≡◌, refl, sym, ap, subst, ◌∙◌}
 use mathlib.Core.List.{List, [], ◌++◌, append_assoc}
 use Prim.Native.Nat.{ℕ, zero, suc, ◌+◌, ◌-◌, ◌≤◌, ◌<◌}
 use native.Mathlib.Omega.{arith}
+use borrow.Author.Rules.{rules}
+use Rattle.std.specs.Prelude.{Some, None}
 use lib.ListN.{length, take, drop, length-drop, take-append-drop}
 use lib.Seq.{take-add, take-length}
 use Rattle.base_ten.specs.Bytes.{line_feed, before, split}
@@ -14,7 +15,7 @@ use Rattle.base_ten.proofs.KeepLaws.{last_part}
 use Rattle.machine.specs.declared.Queue.{Queue}
 use Rattle.rule_lines.specs.Answers.{answer_line, answers, room}
 use Rattle.rule_lines.specs.Stores.{AnswersHeld}
-use Rattle.rule_lines.specs.Kept.{Keeps}
+use Rattle.line_text.specs.Kept.{Keeps}
 use Rattle.rule_lines.specs.Progress.{State, state, rules_of, begun_line, ahead, Tells, Feeds, Finishes, FinishesWithRoom}
 use Rattle.rule_lines.proofs.TellsLaws.{joined_tells, ended_ahead, tells_both}
 
@@ -116,9 +117,10 @@ finish_line s {out} {out' = out'} {end = end} some fits a = record {
 }
 
 -- all is written
-pub no_more : {s : State} {out : List ℕ} {written : ℕ} {s' : State} {out' : List ℕ} → Finishes s written out' → FinishesWithRoom s out written false s' out'
-no_more f = record { over = λ r. refl; finishes = λ e. f; unchanged = λ e. absurd (false≢true e) }
+pub all_told : {s : State} {out : List ℕ} {written : ℕ} {s' : State} {out' : List ℕ} → Finishes s written out'
+    → FinishesWithRoom s out (Some written) s' out'
+all_told f = record { over = λ r. search rules; finishes = f }
 
 -- no room for the last answer
-pub more_waits : {s : State} {out : List ℕ} → length out < room → FinishesWithRoom s out 0 true s out
-more_waits l = record { over = λ r. absurd (omega arith); finishes = λ e. absurd (true≢false e); unchanged = λ e. (refl, refl, refl) }
+pub more_waits : {s : State} {out : List ℕ} → length out < room → FinishesWithRoom s out None s out
+more_waits l = record { over = λ r. absurd (omega arith); finishes = (refl, refl) }

@@ -2,7 +2,7 @@
 use mathlib.Core.Path.{◌≡◌, refl, ap, ◌∙◌}
 use mathlib.Core.Bool.{Bool, true, false, ◌&&◌, ◌||◌}
 use mathlib.Core.List.{List, []}
-use Prim.Native.Nat.{ℕ, ◌-◌, ◌≤◌, ◌<◌}
+use Prim.Native.Nat.{ℕ, ◌+◌, ◌-◌, ◌≤◌, ◌<◌}
 use native.Mathlib.Omega.{arith}
 use lib.Dec.{leb}
 use lib.ListN.{length}
@@ -47,14 +47,14 @@ fresh_cleans {t} {t'} {q} {q'} {r} p scratch room lent =
     asked = unfold questions early late cells_in_range in first_no_zero (questions (store t q []) (fresh store_cells)) (refl, (long, tt))
 
 -- how far the steps have come: no more packets wait than steps are left
-pub record Draining (t₀ scratch₀ : List ℕ) (q₀ : Queue) (t scratch : List ℕ) (q : Queue) (left : ℕ) : Type 0 where
+pub record Draining (t₀ scratch₀ : List ℕ) (q₀ : Queue) (t scratch : List ℕ) (q : Queue) (done : ℕ) : Type 0 where
   pub table_size : length t ≡ length t₀
   pub scratch_size : length scratch ≡ length scratch₀
-  pub told : (w : ℕ) → Holding w t₀ q₀ scratch₀ → Holding w t q scratch × (q.count ≤ left)
+  pub told : (w : ℕ) → Holding w t₀ q₀ scratch₀ → Holding w t q scratch × (q.count ≤ q₀.count - done)
 
-pub one_step : {t₀ scratch₀ : List ℕ} {q₀ : Queue} {t scratch : List ℕ} {q : Queue} {left : ℕ} {r : Reply} {t' scratch' : List ℕ} {q' : Queue}
-    → Draining t₀ scratch₀ q₀ t scratch q left → Promise (store t q scratch) step r (store t' q' scratch')
-    → (w : ℕ) → Holding w t₀ q₀ scratch₀ → Holding w t' q' scratch' × (q'.count ≤ left - 1)
+pub one_step : {t₀ scratch₀ : List ℕ} {q₀ : Queue} {t scratch : List ℕ} {q : Queue} {done : ℕ} {r : Reply} {t' scratch' : List ℕ} {q' : Queue}
+    → Draining t₀ scratch₀ q₀ t scratch q done → Promise (store t q scratch) step r (store t' q' scratch')
+    → (w : ℕ) → Holding w t₀ q₀ scratch₀ → Holding w t' q' scratch' × (q'.count ≤ q₀.count - (done + 1))
 one_step d p w h =
     let k = d.told w h in
     let n = step_holding k.0 p in

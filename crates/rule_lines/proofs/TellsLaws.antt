@@ -8,7 +8,8 @@ use Rattle.base_ten.specs.Bytes.{line_feed, before, lines_of}
 use Rattle.base_ten.specs.Lines.{onto}
 use Rattle.base_ten.proofs.LineLaws.{onto_none, lines_joined, lines_ended}
 use Rattle.rule_lines.specs.Answers.{answer_line, answers}
-use Rattle.rule_lines.specs.Kept.{kept_bytes, Keeps}
+use Rattle.line_text.specs.Kept.{Keeps}
+use Rattle.rule_lines.specs.Kept.{kept_bytes}
 use Rattle.rule_lines.specs.Progress.{State, state, rules_of, begun_line, ahead, Tells}
 use Rattle.rule_lines.proofs.AnswerLaws.{answer_capped, line_capped}
 

@@ -1,5 +1,5 @@
 -- How far the rules have come: what is still to be written follows from the bytes of the present line and the input to come.
-use Rattle.std.specs.Prelude.{◌≡◌, Bool, true, false, List, [], ◌++◌, ℕ, ◌+◌, ◌≤◌, ◌<◌, length, take}
+use Rattle.std.specs.Prelude.{◌≡◌, Option, IsSome, MatchOption, List, [], ◌++◌, ℕ, ◌+◌, ◌≤◌, ◌<◌, length, take}
 use Rattle.base_ten.specs.Bytes.{lines_of}
 use Rattle.base_ten.specs.Lines.{onto}
 use Rattle.machine.specs.declared.Queue.{Queue}
@@ -51,11 +51,11 @@ pub record Finishes (s : State) (written : ℕ) (out : List ℕ) : Type 0 where
   pub within : written ≤ length out
   pub listing : CleanState s → ahead s [] ≡ take written out
 
--- Any buffer may be lent for that: with room for an answer there is no more to write. While there is more, nothing is written and nothing has changed.
-pub record FinishesWithRoom (s : State) (out : List ℕ) (written : ℕ) (more : Bool) (s' : State) (out' : List ℕ) : Type 0 where
-  pub over : room ≤ length out → more ≡ false
-  pub finishes : more ≡ false → Finishes s written out'
-  pub unchanged : more ≡ true → (written ≡ 0) × (s' ≡ s) × (out' ≡ out)
+-- Any buffer may be lent for that: with room for an answer all is written, and how much is told. Without room nothing may be told, and then nothing has
+-- changed.
+pub record FinishesWithRoom (s : State) (out : List ℕ) (written : Option ℕ) (s' : State) (out' : List ℕ) : Type 0 where
+  pub over : room ≤ length out → IsSome written
+  pub finishes : MatchOption written ((s' ≡ s) × (out' ≡ out)) (λ n. Finishes s n out')
 
 -- a table long enough, and scratch enough: clean before any input
 pub record Starts (t t' : List ℕ) (r : Rules) : Type 0 where

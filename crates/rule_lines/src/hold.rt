@@ -9,45 +9,32 @@ pub const CELLS: u16 = 64;
 pub fn freshened(table: &mut [u16]) -> Queue
     ensures { Freshens table.old table.new result }
 {
-    let reply = store::fresh(table, Queue::empty(), CELLS);
-    reply.queue
+    store::fresh(table, Queue::empty(), CELLS).queue
 }
 
 // As many steps as packets wait.
-pub fn drain(table: &mut [u16], queue: Queue, scratch: &mut [u16]) -> Queue
-    ensures { Drains table.old queue scratch.old table.new result scratch.new }
+fn drain(table: &mut [u16], queue: &mut Queue, scratch: &mut [u16])
+    ensures { Drains table.old queue.old scratch.old table.new queue.new scratch.new }
 {
-    let mut present = queue;
-    let mut left = present.count;
-    while 0 < left {
-        let before = present;
-        let stepped = store::step(table, before, scratch);
-        let next = stepped.queue;
-        present = next;
-        left -= 1;
+    for _ in 0..queue.count {
+        *queue = store::step(table, *queue, scratch).queue;
     }
-    present
 }
 
 // The hold of a cell is given up; nil and atoms have none.
-fn give_up(table: &mut [u16], queue: Queue, word: u16) -> Queue
-    ensures { GivesUp word table.old queue table.new result }
+fn give_up(table: &mut [u16], queue: &mut Queue, word: u16)
+    ensures { GivesUp word table.old queue.old table.new queue.new }
 {
-    if word == 0 {
-        return queue;
+    if 0 < word && word < FIRST_ATOM {
+        *queue = store::down(table, *queue, word, 1).queue;
     }
-    if FIRST_ATOM <= word {
-        return queue;
-    }
-    let reply = store::down(table, queue, word, 1);
-    reply.queue
 }
 
 // The word of a line is let go, and its cells with it.
-pub fn clean(table: &mut [u16], queue: Queue, scratch: &mut [u16], word: u16) -> Queue
-    ensures { Cleans word table.old queue scratch.old table.new result scratch.new }
+pub fn clean(table: &mut [u16], queue: &mut Queue, scratch: &mut [u16], word: u16)
+    ensures { Cleans word table.old queue.old scratch.old table.new queue.new scratch.new }
 {
-    let built = drain(table, queue, scratch);
-    let given = give_up(table, built, word);
-    drain(table, given, scratch)
+    drain(table, queue, scratch);
+    give_up(table, queue, word);
+    drain(table, queue, scratch);
 }

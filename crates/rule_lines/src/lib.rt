@@ -2,20 +2,23 @@
 #![tactic(auto)]
 
 mod hold;
-mod kept;
 mod line;
 
 ghost use Rattle.std.specs.Prelude.{◌≡◌};
-ghost use Rattle.rule_lines.specs.Progress.{state, rules_of, Starts, Feeds, FinishesWithRoom};
+ghost use Rattle.rule_lines.specs.Progress.{state, Starts, Feeds, FinishesWithRoom};
 
 use base_ten::bytes::next_line_feed;
 use hold::freshened;
-use kept::keep;
 use line::{ROOM, answer_held};
+use line_text::kept::keep;
 use machine::Queue;
+use serving::Fed;
 
-// The bytes to lend for a line.
-pub const LINE_BYTES: usize = kept::KEPT_BYTES;
+// The most bytes of a text.
+const TEXT_BYTES: usize = 4096;
+
+// The bytes to lend for a line. One byte too many tells that a line is too long.
+pub const LINE_BYTES: usize = TEXT_BYTES + 1;
 
 // What is carried from one part of the input to the next: how many bytes of the present line are held, and the queue.
 #[derive(Clone, Copy)]
@@ -35,27 +38,6 @@ impl Rules {
     }
 }
 
-// After a part of the input: what is carried on, how much was taken, and how much was written.
-#[derive(Clone, Copy)]
-pub struct Fed {
-    pub rules: Rules,
-    pub taken: usize,
-    pub written: usize,
-}
-
-fn carried(held: usize, queue: Queue, taken: usize, written: usize) -> Fed
-    ensures { (result.rules ≡ rules_of held queue) × (result.taken ≡ taken) × (result.written ≡ written) }
-{
-    Fed {
-        rules: Rules {
-            held: held,
-            queue: queue,
-        },
-        taken: taken,
-        written: written,
-    }
-}
-
 // Takes the input as far as the buffer has room for one more answer. Each whole line is answered, and what follows the last line feed is held.
 pub fn feed(
     rules: Rules,
@@ -64,76 +46,65 @@ pub fn feed(
     line: &mut [u8],
     input: &[u8],
     out: &mut [u8],
-) -> Fed
+) -> Fed<Rules>
     ensures { Feeds (state rules table.old scratch.old line.old) input.now
-        (state result.rules table.new scratch.new line.new) result.taken result.written out.new }
+        (state result.state table.new scratch.new line.new) result.taken result.written out.new }
 {
-    let mut held = rules.held;
-    let mut queue = rules.queue;
+    let mut present = rules;
     let mut taken = 0;
     let mut written = 0;
     let mut next = next_line_feed(input, taken);
+    // Kept: a `for` over lines is no plainer, since where the loop stops is told as the bytes taken.
     while next < input.len() {
         if out.len() - written < ROOM {
-            return carried(held, queue, taken, written);
+            return Fed {
+                state: present,
+                taken,
+                written,
+            };
         }
-        let before = queue;
-        let answered = answer_held(
+        written = answer_held(
             table,
-            before,
+            &mut present.queue,
             scratch,
             line,
-            held,
+            present.held,
             &input[taken..next],
             out,
             written,
         );
-        let after = answered.queue;
-        queue = after;
-        written = answered.end;
-        held = 0;
+        present.held = 0;
         taken = next + 1;
         next = next_line_feed(input, taken);
     }
-    held = keep(line, held, &input[taken..]);
-    carried(held, queue, input.len(), written)
+    let held = present.held;
+    present.held = keep(line, held, &input[taken..]);
+    Fed {
+        state: present,
+        taken: input.len(),
+        written,
+    }
 }
 
-// After the end of the input: how much was written, and whether there is more.
-#[derive(Clone, Copy)]
-pub struct Written {
-    pub written: usize,
-    pub more: bool,
-}
-
-// At the end of the input a last line without its line feed is answered. Where the buffer has no room for its answer nothing is done, and there is more.
+// At the end of the input a last line without its line feed is answered, and how much was written is told. Where the buffer has no room for its answer
+// nothing is done.
 pub fn finish(
     rules: Rules,
     table: &mut [u16],
     scratch: &mut [u16],
     line: &mut [u8],
     out: &mut [u8],
-) -> Written
+) -> Option<usize>
     ensures { FinishesWithRoom (state rules table.old scratch.old line.old) out.old
-        result.written result.more (state rules table.new scratch.new line.new) out.new }
+        result (state rules table.new scratch.new line.new) out.new }
 {
-    let held = rules.held;
-    if held == 0 {
-        return Written {
-            written: 0,
-            more: false,
-        };
+    if rules.held == 0 {
+        return Some(0);
     }
     if out.len() < ROOM {
-        return Written {
-            written: 0,
-            more: true,
-        };
+        return None;
     }
-    let queue = rules.queue;
-    let answered = answer_held(table, queue, scratch, line, held, b"", out, 0);
-    Written {
-        written: answered.end,
-        more: false,
-    }
+    let mut queue = rules.queue;
+    let written = answer_held(table, &mut queue, scratch, line, rules.held, b"", out, 0);
+    Some(written)
 }

@@ -6,7 +6,7 @@ use Prim.Native.Nat.{ℕ, suc, pred, ◌≤◌}
 use native.Mathlib.Omega.{arith}
 use lib.Dec.{leb, eqb}
 use borrow.Author.Tests.{eqb-true, leb-true, ne_eqb}
-use Rattle.base_ten.specs.declared.Number.{Number}
+use Rattle.std.specs.Prelude.{Option, Some, None}
 use Rattle.base_ten.specs.Bytes.{space, digit_zero, digit_nine}
 use Rattle.base_ten.specs.Numbers.{is_digit, number_of}
 use Rattle.notation.specs.Trees.{largest_value}
@@ -28,9 +28,9 @@ deep_digits : (n : ℕ) (ds : List ℕ) (ms : List Mark) → deep_marks n (with_
 deep_digits n [] ms = refl
 deep_digits n (d ∷ ds) ms = go (number_of largest_value (d ∷ ds))
   where
-    go : (v : Number) → deep_marks n (number_mark v ∷ ms) ≡ deep_marks n ms
-    go (Number.Value v) = refl
-    go Number.Nothing = refl
+    go : (v : Option ℕ) → deep_marks n (number_mark v ∷ ms) ≡ deep_marks n ms
+    go (Some v) = refl
+    go None = refl
 
 deep_digit : (n b : ℕ) (bs : List ℕ) → is_digit b ≡ true → too_deep n (b ∷ bs) ≡ too_deep n bs
 unfolding too_deep opens_too_many open_after

@@ -10,7 +10,14 @@ use lib.Dec.{eqb}
 use lib.ListN.{length, get_or, set, length-set, replicate, length-replicate}
 use lib.Seq.{get_or-set_same, get_or-set_other, set-set, set-get_or}
 use borrow.Author.Tests.{eqb-true, eqb-false}
-use Rattle.scanner.specs.Modes.{in_word, words_of_modes, most_modes, popped, unstacked, Stacked, Pushed, Popped}
+use Rattle.scanner.specs.declared.modes.Mode.{Mode}
+use Rattle.scanner.specs.Modes.{digit, in_word, words_of_modes, most_modes, popped, unstacked, Stacked, Pushed, Popped}
+
+pub digit_small : (m : Mode) → digit m < 4
+digit_small Mode.Empty = omega arith
+digit_small Mode.Started = omega arith
+digit_small Mode.Dotted = omega arith
+digit_small Mode.Full = omega arith
 
 pub stacked_length : (n : ℕ) (words : List ℕ) → Stacked n words → length words ≡ words_of_modes
 unfolding Stacked popped

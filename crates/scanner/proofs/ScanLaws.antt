@@ -14,10 +14,11 @@ use Rattle.notation.specs.Grammar.{Token, opening, closing, dot, number, most_te
 use Rattle.notation.specs.Parse.{Mark, token, foreign, Frame, plain, dotted, full, State, within, outside, deliver, list_of, close_list, dot_list, parsed_from, marks_after, marks_of, start, tree, none, tree_of, parse}
 use Rattle.notation.specs.Brackets.{most_open, too_deep}
 use Rattle.notation.proofs.Tall.{too_tall, stays_outside, marks_short}
-use Rattle.scanner.specs.declared.Scanned.{Scanned}
+use Rattle.std.specs.Prelude.{Option, Some, None, Ok, Err}
+use Rattle.scanner.specs.declared.Fault.{Fault}
 use Rattle.scanner.specs.declared.lists.Scan.{Scan}
-use Rattle.scanner.specs.declared.lists.Taken.{Taken}
-use Rattle.scanner.specs.Modes.{most_modes, unstacked, Stacked, Pushed, Popped}
+use Rattle.scanner.specs.declared.modes.Mode.{Mode}
+use Rattle.scanner.specs.Modes.{digit, most_modes, unstacked, Stacked, Pushed, Popped}
 use Rattle.scanner.specs.Scans.{judged, scan_of}
 use Rattle.scanner.specs.Scanning.{mode_of, element_pairs, open_pairs, largest_mark, Based, grown_by, Pending, nothing, mark, datum, taken, pending_pairs, pending_marks, pending_bytes, deep_from, Scanning, TakenOf}
 use Rattle.scanner.proofs.ModeLaws.{unstacked_length}
@@ -29,11 +30,24 @@ unfolding list_of pairs element_pairs
 list_pairs [] l = omega arith
 list_pairs (e ∷ es) l = omega (arith, list_pairs es (pair e l))
 
-mode_small : (f : Frame) → mode_of f < 4
-mode_small (plain []) = omega arith
-mode_small (plain (e ∷ es)) = omega arith
-mode_small (dotted es) = omega arith
-mode_small (full es l) = omega arith
+-- a mode's digit tells the mode
+pub not_started : (m : Mode) → (m ≡ Mode.Started → ⊥) → digit m ≡ 1 → ⊥
+not_started Mode.Empty h e = omega arith
+not_started Mode.Started h e = h refl
+not_started Mode.Dotted h e = omega arith
+not_started Mode.Full h e = omega arith
+
+pub not_dotted : (m : Mode) → (m ≡ Mode.Dotted → ⊥) → digit m ≡ 2 → ⊥
+not_dotted Mode.Empty h e = omega arith
+not_dotted Mode.Started h e = omega arith
+not_dotted Mode.Dotted h e = h refl
+not_dotted Mode.Full h e = omega arith
+
+pub not_full : (m : Mode) → (m ≡ Mode.Full → ⊥) → digit m ≡ 3 → ⊥
+not_full Mode.Empty h e = omega arith
+not_full Mode.Started h e = omega arith
+not_full Mode.Dotted h e = omega arith
+not_full Mode.Full h e = h refl
 
 or_assoc : (a b c : Bool) → ((a || b) || c) ≡ (a || (b || c))
 or_assoc true b c = refl
@@ -53,7 +67,7 @@ module _ (text words : List ℕ) (s : Scan) (next : ℕ) (x : Scanning text word
         let l = x.locals in
         record {
           frames = x.frames;
-          locals = record { stacked = l.stacked; room = l.room; mode = l.mode; few = l.few };
+          locals = record { stacked = l.stacked; room = l.room; few = l.few };
           modes = x.modes;
           based = x.based;
           parsed = x.parsed ∙ ap tree_of same;
@@ -94,13 +108,13 @@ module _ (text words : List ℕ) (s : Scan) where
     leaves e = x.parsed ∙ ap (λ (r : State). tree_of (parsed_from r (marks_of (drop s.at text)))) e ∙ stays_outside (marks_of (drop s.at text))
 
     -- another innermost list, in the same others
-    settles : (fs : List Frame) (mode more : ℕ) → taken p x.frames ≡ within fs → map mode_of fs ≡ mode ∷ unstacked s.brackets words → Based fs
+    settles : (fs : List Frame) (mode : Mode) (more : ℕ) → taken p x.frames ≡ within fs → map mode_of fs ≡ digit mode ∷ unstacked s.brackets words → Based fs
         → deep_from p s.brackets (drop s.at text) ≡ too_deep s.brackets (drop s.at text)
         → largest_mark (pending_marks p ++ marks_of (drop s.at text)) ≡ largest_mark (marks_of (drop s.at text))
-        → mode < 4 → s.pairs + more ≡ open_pairs fs → more ≤ pending_bytes p → Scanning text words (grown_by s mode more) nothing
-    settles fs mode more e m b d v small counted one = record {
+        → s.pairs + more ≡ open_pairs fs → more ≤ pending_bytes p → Scanning text words (grown_by s mode more) nothing
+    settles fs mode more e m b d v counted one = record {
       frames = fs;
-      locals = record { stacked = x.locals.stacked; room = x.locals.room; mode = small; few = omega (arith, x.enough, x.inside, x.short) };
+      locals = record { stacked = x.locals.stacked; room = x.locals.room; few = omega (arith, x.enough, x.inside, x.short) };
       modes = m;
       based = b;
       parsed = x.parsed ∙ ap (λ (r : State). tree_of (parsed_from r (marks_of (drop s.at text)))) e;
@@ -114,76 +128,76 @@ module _ (text words : List ℕ) (s : Scan) where
     }
 
   module _ (t : Tree) (x : Scanning text words s (datum t)) where
-    pub deliver_full : s.mode ≡ 3 → parse text ≡ none
+    pub deliver_full : digit s.mode ≡ 3 → parse text ≡ none
     deliver_full h = leaves (datum t) x (go x.frames x.modes)
       where
-        go : (fs : List Frame) → map mode_of fs ≡ s.mode ∷ unstacked s.brackets words → deliver t fs ≡ outside
+        go : (fs : List Frame) → map mode_of fs ≡ digit s.mode ∷ unstacked s.brackets words → deliver t fs ≡ outside
         go [] m = refl
-        go (plain [] ∷ fs) m = let e : 0 ≡ s.mode = cc in absurd (omega arith)
-        go (plain (y ∷ es) ∷ fs) m = let e : 1 ≡ s.mode = cc in absurd (omega arith)
-        go (dotted es ∷ fs) m = let e : 2 ≡ s.mode = cc in absurd (omega arith)
+        go (plain [] ∷ fs) m = let e : 0 ≡ digit s.mode = cc in absurd (omega arith)
+        go (plain (y ∷ es) ∷ fs) m = let e : 1 ≡ digit s.mode = cc in absurd (omega arith)
+        go (dotted es ∷ fs) m = let e : 2 ≡ digit s.mode = cc in absurd (omega arith)
         go (full es l ∷ fs) m = refl
 
-    pub deliver_behind : s.mode ≡ 2
-        → Scanning text words (grown_by s 3 0) nothing
+    pub deliver_behind : digit s.mode ≡ 2
+        → Scanning text words (grown_by s Mode.Full 0) nothing
     deliver_behind h = go x.frames refl x.modes x.based x.counted
       where
         base : (es : List Tree) (fs : List Frame) → Based (dotted es ∷ fs) → Based (full es t ∷ fs)
         base es [] b = b
         base es (f ∷ fs) b = b
 
-        go : (fs : List Frame) → x.frames ≡ fs → map mode_of fs ≡ s.mode ∷ unstacked s.brackets words → Based fs → s.pairs ≡ open_pairs fs + pairs t
-            → Scanning text words (grown_by s 3 0) nothing
+        go : (fs : List Frame) → x.frames ≡ fs → map mode_of fs ≡ digit s.mode ∷ unstacked s.brackets words → Based fs → s.pairs ≡ open_pairs fs + pairs t
+            → Scanning text words (grown_by s Mode.Full 0) nothing
         go [] e m b n = absurd b
-        go (plain [] ∷ fs) e m b n = let z : 0 ≡ s.mode = cc in absurd (omega arith)
-        go (plain (y ∷ es) ∷ fs) e m b n = let z : 1 ≡ s.mode = cc in absurd (omega arith)
+        go (plain [] ∷ fs) e m b n = let z : 0 ≡ digit s.mode = cc in absurd (omega arith)
+        go (plain (y ∷ es) ∷ fs) e m b n = let z : 1 ≡ digit s.mode = cc in absurd (omega arith)
         go (dotted es ∷ fs) e m b n =
             let others : map mode_of fs ≡ unstacked s.brackets words = cc in
-            settles (datum t) x (full es t ∷ fs) 3 0 (ap (deliver t) e) (ap {B = List ℕ} (λ r. 3 ∷ r) others) (base es fs b) refl refl (omega arith)
+            settles (datum t) x (full es t ∷ fs) Mode.Full 0 (ap (deliver t) e) (ap {B = List ℕ} (λ r. 3 ∷ r) others) (base es fs b) refl refl
             (omega arith) (omega arith)
-        go (full es l ∷ fs) e m b n = let z : 3 ≡ s.mode = cc in absurd (omega arith)
+        go (full es l ∷ fs) e m b n = let z : 3 ≡ digit s.mode = cc in absurd (omega arith)
 
-    pub deliver_element : (s.mode ≡ 3 → ⊥) → (s.mode ≡ 2 → ⊥)
-        → Scanning text words (grown_by s 1 1) nothing
+    pub deliver_element : (digit s.mode ≡ 3 → ⊥) → (digit s.mode ≡ 2 → ⊥)
+        → Scanning text words (grown_by s Mode.Started 1) nothing
     unfolding element_pairs
     deliver_element other another = go x.frames refl x.modes x.based x.counted
       where
-        go : (fs : List Frame) → x.frames ≡ fs → map mode_of fs ≡ s.mode ∷ unstacked s.brackets words → Based fs → s.pairs ≡ open_pairs fs + pairs t
-            → Scanning text words (grown_by s 1 1) nothing
+        go : (fs : List Frame) → x.frames ≡ fs → map mode_of fs ≡ digit s.mode ∷ unstacked s.brackets words → Based fs → s.pairs ≡ open_pairs fs + pairs t
+            → Scanning text words (grown_by s Mode.Started 1) nothing
         go [] e m b n = absurd b
         go (plain es ∷ []) e m b n = absurd b
         go (plain es ∷ f ∷ fs) e m b n =
             let others : map mode_of (f ∷ fs) ≡ unstacked s.brackets words = cc in
-            settles (datum t) x (plain (t ∷ es) ∷ f ∷ fs) 1 1 (ap (deliver t) e) (ap {B = List ℕ} (λ r. 1 ∷ r) others) b refl refl (omega arith)
+            settles (datum t) x (plain (t ∷ es) ∷ f ∷ fs) Mode.Started 1 (ap (deliver t) e) (ap {B = List ℕ} (λ r. 1 ∷ r) others) b refl refl
             (omega arith) (omega arith)
-        go (dotted es ∷ fs) e m b n = absurd (another (let z : s.mode ≡ 2 = cc in z))
-        go (full es l ∷ fs) e m b n = absurd (other (let z : s.mode ≡ 3 = cc in z))
+        go (dotted es ∷ fs) e m b n = absurd (another (let z : digit s.mode ≡ 2 = cc in z))
+        go (full es l ∷ fs) e m b n = absurd (other (let z : digit s.mode ≡ 3 = cc in z))
 
   module _ (x : Scanning text words s (mark dot)) where
-    pub dot_outside : (s.mode ≡ 1 → ⊥) → parse text ≡ none
+    pub dot_outside : (digit s.mode ≡ 1 → ⊥) → parse text ≡ none
     dot_outside h = leaves (mark dot) x (go x.frames x.modes)
       where
-        go : (fs : List Frame) → map mode_of fs ≡ s.mode ∷ unstacked s.brackets words → dot_list fs ≡ outside
+        go : (fs : List Frame) → map mode_of fs ≡ digit s.mode ∷ unstacked s.brackets words → dot_list fs ≡ outside
         go [] m = refl
         go (plain [] ∷ fs) m = refl
-        go (plain (y ∷ es) ∷ fs) m = absurd (h (let z : s.mode ≡ 1 = cc in z))
+        go (plain (y ∷ es) ∷ fs) m = absurd (h (let z : digit s.mode ≡ 1 = cc in z))
         go (dotted es ∷ fs) m = refl
         go (full es l ∷ fs) m = refl
 
-    pub dot_taken : s.mode ≡ 1 → Scanning text words (grown_by s 2 0) nothing
+    pub dot_taken : digit s.mode ≡ 1 → Scanning text words (grown_by s Mode.Dotted 0) nothing
     dot_taken h = go x.frames refl x.modes x.based x.counted
       where
-        go : (fs : List Frame) → x.frames ≡ fs → map mode_of fs ≡ s.mode ∷ unstacked s.brackets words → Based fs → s.pairs ≡ open_pairs fs + 0
-            → Scanning text words (grown_by s 2 0) nothing
+        go : (fs : List Frame) → x.frames ≡ fs → map mode_of fs ≡ digit s.mode ∷ unstacked s.brackets words → Based fs → s.pairs ≡ open_pairs fs + 0
+            → Scanning text words (grown_by s Mode.Dotted 0) nothing
         go [] e m b n = absurd b
-        go (plain [] ∷ fs) e m b n = let z : 0 ≡ s.mode = cc in absurd (omega arith)
+        go (plain [] ∷ fs) e m b n = let z : 0 ≡ digit s.mode = cc in absurd (omega arith)
         go (plain (y ∷ es) ∷ []) e m b n = absurd b
         go (plain (y ∷ es) ∷ f ∷ fs) e m b n =
             let others : map mode_of (f ∷ fs) ≡ unstacked s.brackets words = cc in
-            settles (mark dot) x (dotted (y ∷ es) ∷ f ∷ fs) 2 0 (ap dot_list e) (ap {B = List ℕ} (λ r. 2 ∷ r) others) b refl refl (omega arith)
+            settles (mark dot) x (dotted (y ∷ es) ∷ f ∷ fs) Mode.Dotted 0 (ap dot_list e) (ap {B = List ℕ} (λ r. 2 ∷ r) others) b refl refl
             (omega arith) (omega arith)
-        go (dotted es ∷ fs) e m b n = let z : 2 ≡ s.mode = cc in absurd (omega arith)
-        go (full es l ∷ fs) e m b n = let z : 3 ≡ s.mode = cc in absurd (omega arith)
+        go (dotted es ∷ fs) e m b n = let z : 2 ≡ digit s.mode = cc in absurd (omega arith)
+        go (full es l ∷ fs) e m b n = let z : 3 ≡ digit s.mode = cc in absurd (omega arith)
 
   module _ (x : Scanning text words s (mark opening)) where
     -- each list needs a byte to close it
@@ -193,12 +207,12 @@ module _ (text words : List ℕ) (s : Scan) where
         ∙ too_tall (plain [] ∷ x.frames) (marks_of (drop s.at text))
         (omega (arith, height (mark opening) x, marks_short (drop s.at text), length-drop s.at text, x.short, x.inside, x.opened))
 
-    pub opens : (new : List ℕ) (deep : Bool) → (s.brackets ≡ most_modes → ⊥) → Pushed s.brackets s.mode words new → deep ≡ (s.deep || eqb s.brackets most_open)
-        → Scanning text new (record { at = s.at; mode = 0; brackets = s.brackets + 1; deep = deep; pairs = s.pairs; largest = s.largest }) nothing
+    pub opens : (new : List ℕ) (deep : Bool) → (s.brackets ≡ most_modes → ⊥) → Pushed s.brackets (digit s.mode) words new → deep ≡ (s.deep || eqb s.brackets most_open)
+        → Scanning text new (record { at = s.at; mode = Mode.Empty; brackets = s.brackets + 1; deep = deep; pairs = s.pairs; largest = s.largest }) nothing
     unfolding element_pairs
     opens new deep h pushed e = record {
       frames = plain [] ∷ x.frames;
-      locals = record { stacked = pushed.stacked; room = omega (arith, x.locals.room); mode = omega arith; few = x.locals.few };
+      locals = record { stacked = pushed.stacked; room = omega (arith, x.locals.room); few = x.locals.few };
       modes = ap {B = List ℕ} (λ r. 0 ∷ r) (x.modes ∙ sym pushed.modes);
       based = base x.frames x.based;
       parsed = x.parsed;
@@ -225,18 +239,18 @@ module _ (text words : List ℕ) (s : Scan) where
         go (f ∷ []) e = refl
         go (f ∷ g ∷ fs) e = absurd (omega arith)
 
-    pub closes_dotted : s.mode ≡ 2 → parse text ≡ none
+    pub closes_dotted : digit s.mode ≡ 2 → parse text ≡ none
     closes_dotted h = leaves (mark closing) x (go x.frames x.modes)
       where
-        go : (fs : List Frame) → map mode_of fs ≡ s.mode ∷ unstacked s.brackets words → close_list fs ≡ outside
+        go : (fs : List Frame) → map mode_of fs ≡ digit s.mode ∷ unstacked s.brackets words → close_list fs ≡ outside
         go [] m = refl
         go (f ∷ []) m = refl
-        go (plain [] ∷ g ∷ fs) m = let z : 0 ≡ s.mode = cc in absurd (omega arith)
-        go (plain (y ∷ es) ∷ g ∷ fs) m = let z : 1 ≡ s.mode = cc in absurd (omega arith)
+        go (plain [] ∷ g ∷ fs) m = let z : 0 ≡ digit s.mode = cc in absurd (omega arith)
+        go (plain (y ∷ es) ∷ g ∷ fs) m = let z : 1 ≡ digit s.mode = cc in absurd (omega arith)
         go (dotted es ∷ g ∷ fs) m = refl
-        go (full es l ∷ g ∷ fs) m = let z : 3 ≡ s.mode = cc in absurd (omega arith)
+        go (full es l ∷ g ∷ fs) m = let z : 3 ≡ digit s.mode = cc in absurd (omega arith)
 
-    module _ (new : List ℕ) (mode : ℕ) (any : s.brackets ≡ 0 → ⊥) (other : s.mode ≡ 2 → ⊥) (popped : Popped s.brackets mode words new) where
+    module _ (new : List ℕ) (mode : Mode) (any : s.brackets ≡ 0 → ⊥) (other : digit s.mode ≡ 2 → ⊥) (popped : Popped s.brackets (digit mode) words new) where
       abbrev outer : Scan
       outer = record { at = s.at; mode = mode; brackets = s.brackets - 1; deep = s.deep; pairs = s.pairs; largest = s.largest }
 
@@ -245,10 +259,9 @@ module _ (text words : List ℕ) (s : Scan) where
           → s.pairs ≡ open_pairs (f ∷ fs) + pairs t → Scanning text new outer (datum t)
       ended f fs t e m b n =
           let ms = m ∙ popped.modes in
-          let top : mode_of f ≡ mode = cc in
           record {
             frames = f ∷ fs;
-            locals = record { stacked = popped.stacked; room = omega (arith, x.locals.room); mode = omega (arith, mode_small f); few = x.locals.few };
+            locals = record { stacked = popped.stacked; room = omega (arith, x.locals.room); few = x.locals.few };
             modes = ms;
             based = b;
             parsed = x.parsed ∙ ap (λ (r : State). tree_of (parsed_from r (marks_of (drop s.at text)))) e;
@@ -265,14 +278,14 @@ module _ (text words : List ℕ) (s : Scan) where
       unfolding pairs
       closes {A} then = go x.frames refl x.modes x.based x.counted (height (mark closing) x)
         where
-          go : (fs : List Frame) → x.frames ≡ fs → map mode_of fs ≡ s.mode ∷ unstacked s.brackets words → Based fs → s.pairs ≡ open_pairs fs + 0
+          go : (fs : List Frame) → x.frames ≡ fs → map mode_of fs ≡ digit s.mode ∷ unstacked s.brackets words → Based fs → s.pairs ≡ open_pairs fs + 0
               → length fs ≡ suc s.brackets → A
           go [] e m b n h = absurd b
           go (f ∷ []) e m b n h = absurd (any (omega arith))
           go (plain es ∷ f ∷ fs) e m b n h =
               let others : map mode_of (f ∷ fs) ≡ unstacked s.brackets words = cc in
               then (list_of es nil) (ended f fs (list_of es nil) (ap close_list e) others b (omega (arith, list_pairs es nil)))
-          go (dotted es ∷ f ∷ fs) e m b n h = absurd (other (let z : s.mode ≡ 2 = cc in z))
+          go (dotted es ∷ f ∷ fs) e m b n h = absurd (other (let z : digit s.mode ≡ 2 = cc in z))
           go (full es l ∷ f ∷ fs) e m b n h =
               let others : map mode_of (f ∷ fs) ≡ unstacked s.brackets words = cc in
               then (list_of es l) (ended f fs (list_of es l) (ap close_list e) others b (omega (arith, list_pairs es l)))
@@ -283,7 +296,7 @@ module _ (text words : List ℕ) (s : Scan) where
   unfolding pairs
   number_read v n e x = record {
     frames = x.frames;
-    locals = record { stacked = x.locals.stacked; room = x.locals.room; mode = x.locals.mode; few = x.locals.few };
+    locals = record { stacked = x.locals.stacked; room = x.locals.room; few = x.locals.few };
     modes = x.modes;
     based = x.based;
     parsed = x.parsed;
@@ -298,11 +311,11 @@ module _ (text words : List ℕ) (s : Scan) where
 
 -- before the first token
 pub started : (text words : List ℕ) → length text ≤ most_text → Stacked 0 words
-    → Scanning text words (record { at = 0; mode = 2; brackets = 0; deep = false; pairs = 0; largest = 0 }) nothing
+    → Scanning text words (record { at = 0; mode = Mode.Dotted; brackets = 0; deep = false; pairs = 0; largest = 0 }) nothing
 unfolding parse unstacked element_pairs
 started text words short stacked = record {
   frames = start;
-  locals = record { stacked = stacked; room = omega arith; mode = omega arith; few = omega arith };
+  locals = record { stacked = stacked; room = omega arith; few = omega arith };
   modes = refl;
   based = refl;
   parsed = refl;
@@ -324,10 +337,10 @@ module _ (text words : List ℕ) (s : Scan) (x : Scanning text words s nothing) 
   unfolding parsed_from marks_after
   ends = rw last at x.parsed
 
-  no_tree : tree_of (within x.frames) ≡ none → Scanned.Outside ≡ judged text (parse text)
+  no_tree : tree_of (within x.frames) ≡ none → Err Fault.Outside ≡ judged text (parse text)
   no_tree e = rw (ends ∙ e)
 
-  pub still_open : (s.brackets ≡ 0 → ⊥) → Scanned.Outside ≡ judged text (parse text)
+  pub still_open : (s.brackets ≡ 0 → ⊥) → Err Fault.Outside ≡ judged text (parse text)
   still_open h = no_tree (go x.frames (height text words s nothing x))
     where
       go : (fs : List Frame) → length fs ≡ suc s.brackets → tree_of (within fs) ≡ none
@@ -337,29 +350,29 @@ module _ (text words : List ℕ) (s : Scan) (x : Scanning text words s nothing) 
       go (dotted es ∷ g ∷ fs) e = refl
       go (full es l ∷ g ∷ fs) e = refl
 
-  pub no_datum : (s.mode ≡ 3 → ⊥) → Scanned.Outside ≡ judged text (parse text)
+  pub no_datum : (digit s.mode ≡ 3 → ⊥) → Err Fault.Outside ≡ judged text (parse text)
   no_datum h = no_tree (go x.frames x.modes)
     where
-      go : (fs : List Frame) → map mode_of fs ≡ s.mode ∷ unstacked s.brackets words → tree_of (within fs) ≡ none
+      go : (fs : List Frame) → map mode_of fs ≡ digit s.mode ∷ unstacked s.brackets words → tree_of (within fs) ≡ none
       go [] m = refl
       go (plain es ∷ fs) m = refl
       go (dotted es ∷ fs) m = refl
-      go (full es l ∷ fs) m = absurd (h (let z : s.mode ≡ 3 = cc in z))
+      go (full es l ∷ fs) m = absurd (h (let z : digit s.mode ≡ 3 = cc in z))
 
-  module _ (closed : s.brackets ≡ 0) (filled : s.mode ≡ 3) where
+  module _ (closed : s.brackets ≡ 0) (filled : digit s.mode ≡ 3) where
     whole : {A : Type 0} → ((t : Tree) → parse text ≡ tree t → s.pairs ≡ pairs t → A) → A
     unfolding element_pairs
     whole {A} then = go x.frames refl x.modes x.based x.counted (height text words s nothing x)
       where
-        go : (fs : List Frame) → x.frames ≡ fs → map mode_of fs ≡ s.mode ∷ unstacked s.brackets words → Based fs → s.pairs ≡ open_pairs fs + 0
+        go : (fs : List Frame) → x.frames ≡ fs → map mode_of fs ≡ digit s.mode ∷ unstacked s.brackets words → Based fs → s.pairs ≡ open_pairs fs + 0
             → length fs ≡ suc s.brackets → A
         go [] e m b n h = absurd b
         go (plain es ∷ []) e m b n h = absurd b
-        go (dotted es ∷ []) e m b n h = let z : 2 ≡ s.mode = cc in absurd (omega arith)
+        go (dotted es ∷ []) e m b n h = let z : 2 ≡ digit s.mode = cc in absurd (omega arith)
         go (full es t ∷ []) e m b n h = then t (ends ∙ rw e) (rw b at n ∙ omega arith)
         go (f ∷ g ∷ fs) e m b n h = absurd (omega arith)
 
-    pub is_deep : s.deep ≡ true → Scanned.TooDeep ≡ judged text (parse text)
+    pub is_deep : s.deep ≡ true → Err Fault.TooDeep ≡ judged text (parse text)
     is_deep h = whole (λ t e n. let d : too_deep 0 text ≡ true = rw h at x.deep in rw (e, d))
 
     -- all marks are read
@@ -367,18 +380,18 @@ module _ (text words : List ℕ) (s : Scan) (x : Scanning text words s nothing) 
     unfolding marks_after
     value = rw last at x.values ∙ max-zero s.largest
 
-    pub is_shallow : s.deep ≡ false → Scanned.Tree s.pairs s.largest ≡ judged text (parse text)
+    pub is_shallow : s.deep ≡ false → Ok (record { pairs = s.pairs; largest = s.largest }) ≡ judged text (parse text)
     unfolding too_deep
     is_shallow h = whole (λ t e n.
         let d : too_deep 0 text ≡ false = rw (h, last) at x.deep in
         let v : s.largest ≡ largest t = sym value ∙ text_largest text t e in
         rw (e, d, n, v))
 
-pub taken_from : {from next : ℕ} (text words : List ℕ) (r : Taken) → from < next → TakenOf text words next r → TakenOf text words (from + 1) r
-taken_from text words (Taken.Within s) h x = (x.0, omega (arith, x.1))
-taken_from text words Taken.Outside h x = x
+pub taken_from : {from next : ℕ} (text words : List ℕ) (r : Option Scan) → from < next → TakenOf text words next r → TakenOf text words (from + 1) r
+taken_from text words (Some s) h x = (x.0, omega (arith, x.1))
+taken_from text words None h x = x
 
-pub long_outside : (text : List ℕ) → most_text < length text → Scanned.Outside ≡ scan_of text
+pub long_outside : (text : List ℕ) → most_text < length text → Err Fault.Outside ≡ scan_of text
 unfolding scan_of
 long_outside text h = rw (lt-leb (length text) most_text h)
 

@@ -1,27 +1,19 @@
 -- The marks of a text, token by token.
-use mathlib.Core.Path.{◌≡◌, sym, ap, ◌∙◌}
+use mathlib.Core.Path.{◌≡◌, refl, sym, ap, ◌∙◌}
 use mathlib.Core.Bool.{false}
 use mathlib.Core.List.{List, [], ◌∷◌, ◌++◌}
 use Prim.Native.Nat.{ℕ, suc, ◌+◌, ◌-◌, ◌≤◌, ◌<◌}
 use native.Mathlib.Omega.{arith}
 use lib.ListN.{length, get_or, take, drop, drop_of_length-le, length-drop, length-take}
 use lib.Seq.{take-suc, get_or-drop}
-use borrow.Author.Tests.{ne_eqb, le-leb, lt-leb}
-use Rattle.base_ten.specs.declared.Number.{Number}
-use Rattle.base_ten.specs.Bytes.{space, digit_zero, digit_nine}
+use borrow.Author.Tests.{le-leb}
+use Rattle.base_ten.specs.Bytes.{digit_zero, digit_nine}
 use Rattle.base_ten.specs.Numbers.{is_digit, number_of}
 use Rattle.base_ten.proofs.ByteLaws.{drop_at}
 use Rattle.notation.specs.Trees.{largest_value}
-use Rattle.notation.specs.Grammar.{open_byte, close_byte, dot_byte}
-use Rattle.notation.specs.Parse.{Mark, foreign, number_mark, with_digits, with_byte, marks_after, marks_of}
+use Rattle.notation.specs.Parse.{number_mark, with_digits, marks_after, marks_of}
 use Rattle.scanner.specs.declared.tokens.Token.{Token}
-use Rattle.scanner.specs.Tokens.{marks_of_token, ValueOfToken, TokenAt, DigitAt, DigitsEnd}
-
-pub below_digits : (b : ℕ) → b < digit_zero → is_digit b ≡ false
-below_digits b h = rw (lt-leb digit_zero b h)
-
-pub above_digits : (b : ℕ) → digit_nine < b → is_digit b ≡ false
-above_digits b h = let low : digit_zero ≤ b = omega arith in rw (le-leb digit_zero b low, lt-leb b digit_nine h)
+use Rattle.scanner.specs.Tokens.{IsNumber, IsByte, TokenAt, DigitAt, DigitsEnd}
 
 -- one digit more
 pub after_digit : (ds text : List ℕ) (i : ℕ) → DigitAt text i → marks_after ds (drop i text) ≡ marks_after (ds ++ (get_or text i 0 ∷ [])) (drop (i + 1) text)
@@ -54,27 +46,22 @@ digits_more text at i h d run =
     ∙ sym (rw (e, take-suc (drop at text) (i - at) 0 inside, byte))
 
 -- a byte that is no digit is a token by itself
-pub byte_token : (text : List ℕ) (at b : ℕ) (t : Token) → at < length text → get_or text at 0 ≡ b → is_digit b ≡ false
-    → ((ms : List Mark) → with_byte b ms ≡ marks_of_token t ++ ms) → ValueOfToken t → TokenAt text at (record { token = t; next = at + 1 })
+pub byte_token : (text : List ℕ) (at : ℕ) (t : Token) → at < length text → is_digit (get_or text at 0) ≡ false → IsByte (get_or text at 0) t
+    → TokenAt text at (record { token = t; next = at + 1 })
 unfolding marks_after
-byte_token text at b t h e other m v = record { further = omega arith; inside = omega arith; marks = marked ∙ m (marks_of (drop (at + 1) text)); value = v }
-  where
-    marked : marks_of (drop at text) ≡ with_byte b (marks_of (drop (at + 1) text))
-    marked = rw (drop_at text at h, e, other)
-
-pub foreign_byte : (b : ℕ) → (b ≡ space → ⊥) → (b ≡ open_byte → ⊥) → (b ≡ close_byte → ⊥) → (b ≡ dot_byte → ⊥) → (ms : List Mark) → with_byte b ms ≡ foreign ∷ ms
-unfolding with_byte
-foreign_byte b h₁ h₂ h₃ h₄ ms = rw (ne_eqb b space h₁, ne_eqb b open_byte h₂, ne_eqb b close_byte h₃, ne_eqb b dot_byte h₄)
+byte_token text at t h other is =
+    record { further = omega arith; inside = omega arith; marks = rw (drop_at text at h, other) (is.marks (marks_of (drop (at + 1) text))); value = is.value }
 
 -- digits that stand together are one token, by what they say as a number
-pub number_token : (text : List ℕ) (at end : ℕ) (n : Number) (t : Token) → DigitsEnd text at end → n ≡ number_of largest_value (take (end - at) (drop at text))
-    → marks_of_token t ≡ number_mark n ∷ [] → ValueOfToken t → TokenAt text at (record { token = t; next = end })
-number_token text at end n t d e m v =
-    record { further = d.further; inside = d.inside; marks = d.marks ∙ some (take (end - at) (drop at text)) any e ∙ sym (rw m); value = v }
+pub number_token : (text : List ℕ) (at end : ℕ) (t : Token) → DigitsEnd text at end → IsNumber (take (end - at) (drop at text)) t
+    → TokenAt text at (record { token = t; next = end })
+number_token text at end t d is =
+    record { further = d.further; inside = d.inside; marks = d.marks ∙ some (take (end - at) (drop at text)) any ∙ sym (rw is.marks); value = is.value }
   where
     any : 0 < length (take (end - at) (drop at text))
     any = simp (length-take, length-drop) (omega (arith, d.further, d.inside))
 
-    some : (ds : List ℕ) → 0 < length ds → n ≡ number_of largest_value ds → with_digits ds (marks_of (drop end text)) ≡ number_mark n ∷ marks_of (drop end text)
-    some [] h k = absurd (omega arith)
-    some (b ∷ ds) h k = rw k
+    some : (ds : List ℕ) → 0 < length ds
+        → with_digits ds (marks_of (drop end text)) ≡ number_mark (number_of largest_value ds) ∷ marks_of (drop end text)
+    some [] h = absurd (omega arith)
+    some (b ∷ ds) h = refl

@@ -1,5 +1,12 @@
--- A stack of modes, numbers from 0 to 3, in words of 64 bits: 32 modes a word, two bits each, the last pushed on top.
+-- A stack of modes, each a digit from 0 to 3, in words of 64 bits: 32 modes a word, two bits each, the last pushed on top.
 use Rattle.std.specs.Prelude.{◌≡◌, List, [], ◌∷◌, ℕ, zero, suc, ◌+◌, ◌-◌, ◌/◌, ◌%◌, length, get_or, set}
+use Rattle.scanner.specs.declared.modes.Mode.{Mode}
+
+abbrev pub digit : Mode → ℕ
+digit Mode.Empty = 0
+digit Mode.Started = 1
+digit Mode.Dotted = 2
+digit Mode.Full = 3
 
 abbrev pub in_word : ℕ
 in_word = 32

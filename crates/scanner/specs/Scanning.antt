@@ -1,20 +1,20 @@
 -- How far a scan has come: its locals are what matters of the open lists that the definition of parsing has at that place.
-use Rattle.std.specs.Prelude.{◌≡◌, Bool, ◌||◌, List, [], ◌∷◌, ◌++◌, map, ℕ, suc, pred, ◌+◌, ◌≤◌, ◌<◌, max, eqb, length, drop}
+use Rattle.std.specs.Prelude.{◌≡◌, Bool, ◌||◌, List, [], ◌∷◌, ◌++◌, map, ℕ, suc, pred, ◌+◌, ◌≤◌, max, eqb, length, drop, Option, Some, None}
 use Rattle.notation.specs.Trees.{Tree, pairs}
 use Rattle.notation.specs.Grammar.{Token, opening, closing, dot, number}
 use Rattle.notation.specs.Parse.{Mark, token, foreign, Frame, plain, dotted, full, State, within, deliver, on_token, marks_of, parsed_from, tree_of, parse, none}
 use Rattle.notation.specs.Brackets.{most_open, too_deep}
 use Rattle.scanner.specs.declared.lists.Scan.{Scan}
-use Rattle.scanner.specs.declared.lists.Taken.{Taken}
-use Rattle.scanner.specs.Modes.{most_modes, unstacked, Stacked}
+use Rattle.scanner.specs.declared.modes.Mode.{Mode}
+use Rattle.scanner.specs.Modes.{digit, most_modes, unstacked, Stacked}
 use Rattle.notation.specs.Grammar.{most_text}
 
--- an open list without elements, with elements, behind its dot, and with the part that stands behind it
+-- an open list without elements, with elements, behind its dot, and with the part that stands behind it, as its mode's digit
 abbrev pub mode_of : Frame → ℕ
-mode_of (plain []) = 0
-mode_of (plain (e ∷ es)) = 1
-mode_of (dotted es) = 2
-mode_of (full es l) = 3
+mode_of (plain []) = digit Mode.Empty
+mode_of (plain (e ∷ es)) = digit Mode.Started
+mode_of (dotted es) = digit Mode.Dotted
+mode_of (full es l) = digit Mode.Full
 
 -- elements take a pair each, and those that they have
 unfoldable pub element_pairs : List Tree → ℕ
@@ -49,7 +49,7 @@ Based (full es l ∷ []) = es ≡ []
 Based (f ∷ g ∷ fs) = Based (g ∷ fs)
 
 -- the innermost list in another mode, and so many pairs more
-abbrev pub grown_by : Scan → ℕ → ℕ → Scan
+abbrev pub grown_by : Scan → Mode → ℕ → Scan
 grown_by s mode more = record { at = s.at; mode = mode; brackets = s.brackets; deep = s.deep; pairs = s.pairs + more; largest = s.largest }
 
 -- what has been read but not yet taken: nothing, a token, or a datum that a token completed
@@ -93,14 +93,13 @@ deep_from (datum t) n text = too_deep n text
 pub record Locals (words : List ℕ) (s : Scan) : Type 0 where
   pub stacked : Stacked s.brackets words
   pub room : s.brackets ≤ most_modes
-  pub mode : s.mode < 4
   pub few : s.pairs ≤ most_text
 
 -- The tokens before the place, but what is pending of the last one, have led to these open lists.
 pub record Scanning (text words : List ℕ) (s : Scan) (p : Pending) : Type 0 where
   pub frames : List Frame
   pub locals : Locals words s
-  pub modes : map mode_of frames ≡ s.mode ∷ unstacked s.brackets words
+  pub modes : map mode_of frames ≡ digit s.mode ∷ unstacked s.brackets words
   pub based : Based frames
   pub parsed : parse text ≡ tree_of (parsed_from (taken p frames) (marks_of (drop s.at text)))
   pub deep : too_deep 0 text ≡ (s.deep || deep_from p s.brackets (drop s.at text))
@@ -113,6 +112,6 @@ pub record Scanning (text words : List ℕ) (s : Scan) (p : Pending) : Type 0 wh
   pub opened : s.brackets + pending_bytes p ≤ s.at
 
 -- what a token leads to, from a place on
-abbrev pub TakenOf : List ℕ → List ℕ → ℕ → Taken → Type 0
-TakenOf text words from (Taken.Within s) = Scanning text words s nothing × (from ≤ s.at)
-TakenOf text words from Taken.Outside = parse text ≡ none
+abbrev pub TakenOf : List ℕ → List ℕ → ℕ → Option Scan → Type 0
+TakenOf text words from (Some s) = Scanning text words s nothing × (from ≤ s.at)
+TakenOf text words from None = parse text ≡ none

@@ -3,7 +3,8 @@ use Rattle.std.specs.Prelude.{◌≡◌, List, [], ◌∷◌, ◌++◌, ℕ, ◌
 use Rattle.base_ten.specs.Bytes.{digit_zero, digit_nine}
 use Rattle.notation.specs.Trees.{largest_value}
 use Rattle.notation.specs.Grammar.{opening, closing, dot, number}
-use Rattle.notation.specs.Parse.{Mark, token, foreign, with_digits, marks_of}
+use Rattle.base_ten.specs.Numbers.{number_of}
+use Rattle.notation.specs.Parse.{Mark, token, foreign, number_mark, with_digits, with_byte, marks_of}
 use Rattle.scanner.specs.declared.tokens.Token.{Token}
 use Rattle.scanner.specs.declared.tokens.TokenRead.{TokenRead}
 
@@ -23,6 +24,16 @@ ValueOfToken Token.Closing = Unit {0}
 ValueOfToken Token.Dot = Unit {0}
 ValueOfToken (Token.Number v) = v ≤ largest_value
 ValueOfToken Token.Foreign = Unit {0}
+
+-- what digits that stand together are, by the number that they say
+pub record IsNumber (digits : List ℕ) (t : Token) : Type 0 where
+  pub marks : marks_of_token t ≡ number_mark (number_of largest_value digits) ∷ []
+  pub value : ValueOfToken t
+
+-- what a byte that is no digit is
+pub record IsByte (b : ℕ) (t : Token) : Type 0 where
+  pub marks : (ms : List Mark) → with_byte b ms ≡ marks_of_token t ++ ms
+  pub value : ValueOfToken t
 
 -- the token that stands at a place, and the place past it
 pub record TokenAt (text : List ℕ) (at : ℕ) (r : TokenRead) : Type 0 where

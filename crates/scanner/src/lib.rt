@@ -8,40 +8,41 @@ pub mod tokens;
 ghost use Rattle.std.specs.Prelude.{◌≡◌};
 ghost use Rattle.scanner.specs.Scans.{scan_of};
 
-use lists::{Scan, Taken, judge, take_token};
+use lists::Scan;
 
 // The most bytes of a text.
 const MOST_TEXT: usize = 4096;
 
-#[derive(Clone, Copy)]
-pub enum Scanned {
+// Why no tree is built of a text.
+#[derive(Clone, Copy, Debug, PartialEq, Eq)]
+pub enum Fault {
     // Outside the notation, or too long.
     Outside,
     // More than 32 brackets are open together.
     TooDeep,
-    // What the text means: how many pairs, and the largest value of its atoms, 0 where it has none.
-    Tree { pairs: u16, largest: u16 },
+}
+
+// The tree that a text means: how many pairs it has, and the largest value of its atoms, 0 where it has none.
+#[derive(Clone, Copy)]
+pub struct Measure {
+    pub pairs: u16,
+    pub largest: u16,
 }
 
 // One pass, token by token.
-pub fn scan(text: &[u8]) -> Scanned
+pub fn scan(text: &[u8]) -> Result<Measure, Fault>
     ensures { result ≡ scan_of text.now }
 {
     if MOST_TEXT < text.len() {
-        return Scanned::Outside;
+        return Err(Fault::Outside);
     }
     let mut words = [0u64; modes::WORDS];
-    let mut s = lists::start();
+    let mut s = Scan::start();
     while s.at < text.len() {
-        let taken = take_token(text, &mut words, s);
-        match taken {
-            Taken::Within(n) => {
-                s = n;
-            }
-            Taken::Outside => {
-                return Scanned::Outside;
-            }
-        }
+        let Some(next) = s.take_token(text, &mut words) else {
+            return Err(Fault::Outside);
+        };
+        s = next;
     }
-    judge(s)
+    s.judge()
 }

@@ -1,35 +1,26 @@
 // The open lists of a text, as far as judging it needs them.
-ghost use Rattle.std.specs.Prelude.{◌≡◌, ◌||◌, List, ℕ, ◌+◌, ◌≤◌, ◌<◌, max, eqb, length};
+ghost use Rattle.std.specs.Prelude.{◌≡◌, List, ℕ, ◌+◌, ◌≤◌, ◌<◌, length};
 ghost use Rattle.notation.specs.Trees.{Tree};
 ghost use Rattle.notation.specs.Grammar.{opening, closing, dot};
 ghost use Rattle.notation.specs.Parse.{parse};
-ghost use Rattle.notation.specs.Brackets.{most_open};
 ghost use Rattle.scanner.specs.Modes.{Stacked};
 ghost use Rattle.notation.specs.Grammar.{most_text};
 ghost use Rattle.scanner.specs.Scans.{judged};
-ghost use Rattle.scanner.specs.Scanning.{grown_by, Locals, nothing, mark, datum, Scanning, TakenOf};
+ghost use Rattle.scanner.specs.Scanning.{Locals, nothing, mark, datum, Scanning, TakenOf};
 
+use crate::modes::Mode;
 use crate::tokens::{Token, token_at};
-use crate::{Scanned, modes};
+use crate::{Fault, Measure, modes};
 
 // At most so many brackets are open together.
 const MOST_OPEN: usize = 32;
-
-// The modes of an open list: without elements, with elements, behind its dot, with the part that stands behind it.
-const EMPTY: u64 = 0;
-
-const STARTED: u64 = 1;
-
-const DOTTED: u64 = 2;
-
-const FULL: u64 = 3;
 
 #[derive(Clone, Copy)]
 pub struct Scan {
     // The tokens before this place are taken.
     pub at: usize,
     // Of the innermost open list; the modes of the others are on the stack.
-    pub mode: u64,
+    pub mode: Mode,
     // How many brackets are open.
     pub brackets: usize,
     // Too many were open together.
@@ -40,151 +31,127 @@ pub struct Scan {
     pub largest: u16,
 }
 
-// What a token leads to: a text that may go on, or one outside the notation.
-#[derive(Clone, Copy)]
-pub enum Taken {
-    Within(Scan),
-    Outside,
-}
-
-// The text itself is one datum, as the part behind a dot is.
-pub fn start() -> Scan
-    ensures { (text words : List ℕ) → length text ≤ most_text → Stacked 0 words → Scanning text words result nothing }
-{
-    Scan {
-        at: 0,
-        mode: DOTTED,
-        brackets: 0,
-        deep: false,
-        pairs: 0,
-        largest: 0,
-    }
-}
-
-// The innermost list in another mode, and so many pairs more.
-fn grown(s: Scan, mode: u64, more: u16) -> Scan
-    requires { s.pairs + more < 65536 }
-    ensures { result ≡ grown_by s mode more }
-{
-    let mut n = s;
-    n.mode = mode;
-    n.pairs = s.pairs + more;
-    n
-}
-
-// One datum more in the innermost list. An element takes a pair, the part behind a dot none.
-fn deliver(s: Scan) -> Taken
-    requires { s.pairs ≤ most_text }
-    ensures { (text words : List ℕ) (t : Tree) → Scanning text words s (datum t) → TakenOf text words s.at result }
-{
-    if s.mode == FULL {
-        return Taken::Outside;
-    }
-    if s.mode == DOTTED {
-        return Taken::Within(grown(s, FULL, 0));
-    }
-    Taken::Within(grown(s, STARTED, 1))
-}
-
-// A dot stands behind one element or more.
-fn put_dot(s: Scan) -> Taken
-    requires { s.pairs ≤ most_text }
-    ensures { (text words : List ℕ) → Scanning text words s (mark dot) → TakenOf text words s.at result }
-{
-    if s.mode != STARTED {
-        return Taken::Outside;
-    }
-    Taken::Within(grown(s, DOTTED, 0))
-}
-
-// Whether too many are open together, with one more.
-fn opens_deep(s: Scan) -> bool
-    ensures { result ≡ (s.deep || eqb s.brackets most_open) }
-{
-    if s.deep {
-        return true;
-    }
-    s.brackets == MOST_OPEN
-}
-
-// A text has too few bytes to close more brackets than the stack has room for.
-fn open_list(words: &mut [u64; modes::WORDS], s: Scan) -> Taken
-    requires { Locals words.old s }
-    ensures { (text : List ℕ) → Scanning text words.old s (mark opening) → TakenOf text words.new s.at result }
-{
-    if s.brackets == modes::MOST {
-        return Taken::Outside;
-    }
-    modes::push(words, s.brackets, s.mode);
-    let mut n = s;
-    n.mode = EMPTY;
-    n.brackets = s.brackets + 1;
-    n.deep = opens_deep(s);
-    Taken::Within(n)
-}
-
-fn close_list(words: &mut [u64; modes::WORDS], s: Scan) -> Taken
-    requires { Locals words.old s }
-    ensures { (text : List ℕ) → Scanning text words.old s (mark closing) → TakenOf text words.new s.at result }
-{
-    if s.brackets == 0 {
-        return Taken::Outside;
-    }
-    if s.mode == DOTTED {
-        return Taken::Outside;
-    }
-    let mut n = s;
-    n.mode = modes::pop(words, s.brackets);
-    n.brackets = s.brackets - 1;
-    deliver(n)
-}
-
-fn larger(a: u16, b: u16) -> u16
-    ensures { result ≡ max a b }
-{
-    if a < b {
-        return b;
-    }
-    a
-}
-
-pub fn take_token(text: &[u8], words: &mut [u64; modes::WORDS], s: Scan) -> Taken
-    requires { Scanning text.now words.old s nothing × (s.at < length text.now) }
-    ensures { TakenOf text.now words.new (s.at + 1) result }
-{
-    let at = s.at;
-    let read = token_at(text, at);
-    let token = read.token;
-    let mut n = s;
-    n.at = read.next;
-    match token {
-        Token::Blank => Taken::Within(n),
-        Token::Opening => open_list(words, n),
-        Token::Closing => close_list(words, n),
-        Token::Dot => put_dot(n),
-        Token::Number(v) => {
-            n.largest = larger(s.largest, v);
-            deliver(n)
+// What a token leads to is a scan that may go on, or nothing, where the text is outside the notation.
+impl Scan {
+    // The text itself is one datum, as the part behind a dot is.
+    pub fn start() -> Scan
+        ensures { (text words : List ℕ) → length text ≤ most_text → Stacked 0 words → Scanning text words result nothing }
+    {
+        Scan {
+            at: 0,
+            mode: Mode::Dotted,
+            brackets: 0,
+            deep: false,
+            pairs: 0,
+            largest: 0,
         }
-        Token::Foreign => Taken::Outside,
     }
-}
 
-// A text that has ended.
-pub fn judge(s: Scan) -> Scanned
-    ensures { (text words : List ℕ) → Scanning text words s nothing → length text ≤ s.at → result ≡ judged text (parse text) }
-{
-    if s.brackets != 0 {
-        return Scanned::Outside;
+    // One datum more in the innermost list. An element takes a pair, the part behind a dot none.
+    fn deliver(self) -> Option<Scan>
+        requires { self.pairs ≤ most_text }
+        ensures { (text words : List ℕ) (t : Tree) → Scanning text words self (datum t) → TakenOf text words self.at result }
+    {
+        match self.mode {
+            Mode::Full => None,
+            Mode::Dotted => Some(Scan {
+                mode: Mode::Full,
+                ..self
+            }),
+            _ => Some(Scan {
+                mode: Mode::Started,
+                pairs: self.pairs + 1,
+                ..self
+            }),
+        }
     }
-    if s.mode != FULL {
-        return Scanned::Outside;
+
+    // A dot stands behind one element or more.
+    fn put_dot(self) -> Option<Scan>
+        ensures { (text words : List ℕ) → Scanning text words self (mark dot) → TakenOf text words self.at result }
+    {
+        match self.mode {
+            Mode::Started => Some(Scan {
+                mode: Mode::Dotted,
+                ..self
+            }),
+            _ => None,
+        }
     }
-    if s.deep {
-        return Scanned::TooDeep;
+
+    // A text has too few bytes to close more brackets than the stack has room for.
+    fn open_list(self, words: &mut [u64; modes::WORDS]) -> Option<Scan>
+        requires { Locals words.old self }
+        ensures { (text : List ℕ) → Scanning text words.old self (mark opening) → TakenOf text words.new self.at result }
+    {
+        if self.brackets == modes::MOST {
+            return None;
+        }
+        modes::push(words, self.brackets, self.mode);
+        Some(Scan {
+            mode: Mode::Empty,
+            brackets: self.brackets + 1,
+            deep: self.deep || self.brackets == MOST_OPEN,
+            ..self
+        })
     }
-    Scanned::Tree {
-        pairs: s.pairs,
-        largest: s.largest,
+
+    fn close_list(self, words: &mut [u64; modes::WORDS]) -> Option<Scan>
+        requires { Locals words.old self }
+        ensures { (text : List ℕ) → Scanning text words.old self (mark closing) → TakenOf text words.new self.at result }
+    {
+        if self.brackets == 0 {
+            return None;
+        }
+        if let Mode::Dotted = self.mode {
+            return None;
+        }
+        let outer = Scan {
+            mode: modes::pop(words, self.brackets),
+            brackets: self.brackets - 1,
+            ..self
+        };
+        outer.deliver()
+    }
+
+    pub fn take_token(self, text: &[u8], words: &mut [u64; modes::WORDS]) -> Option<Scan>
+        requires { Scanning text.now words.old self nothing × (self.at < length text.now) }
+        ensures { TakenOf text.now words.new (self.at + 1) result }
+    {
+        let read = token_at(text, self.at);
+        let moved = Scan {
+            at: read.next,
+            ..self
+        };
+        match read.token {
+            Token::Blank => Some(moved),
+            Token::Opening => moved.open_list(words),
+            Token::Closing => moved.close_list(words),
+            Token::Dot => moved.put_dot(),
+            Token::Number(v) => {
+                let largest = self.largest.max(v);
+                Scan { largest, ..moved }.deliver()
+            }
+            Token::Foreign => None,
+        }
+    }
+
+    // A text that has ended.
+    pub fn judge(self) -> Result<Measure, Fault>
+        ensures { (text words : List ℕ) → Scanning text words self nothing → length text ≤ self.at → result ≡ judged text (parse text) }
+    {
+        if self.brackets != 0 {
+            return Err(Fault::Outside);
+        }
+        let Mode::Full = self.mode else {
+            return Err(Fault::Outside);
+        };
+        if self.deep {
+            return Err(Fault::TooDeep);
+        }
+        Ok(Measure {
+            pairs: self.pairs,
+            largest: self.largest,
+        })
     }
 }

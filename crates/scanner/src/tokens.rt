@@ -1,8 +1,7 @@
 // The tokens of a rule text, one by one.
 ghost use Rattle.std.specs.Prelude.{◌<◌, length};
-ghost use Rattle.scanner.specs.Tokens.{DigitAt, DigitsEnd, TokenAt};
+ghost use Rattle.scanner.specs.Tokens.{IsNumber, IsByte, DigitAt, DigitsEnd, TokenAt};
 
-use base_ten::Number;
 use base_ten::numbers::number;
 
 // No atom has a larger value.
@@ -33,35 +32,35 @@ fn digits_end(text: &[u8], at: usize) -> usize
     requires { DigitAt text.now at }
     ensures { DigitsEnd text.now at result }
 {
-    let mut i = at + 1;
-    while i < text.len() {
-        let d = text[i];
-        if d < b'0' {
+    for i in at + 1..text.len() {
+        if !text[i].is_ascii_digit() {
             return i;
         }
-        if b'9' < d {
-            return i;
-        }
-        i += 1;
     }
-    i
+    text.len()
 }
 
-fn number_at(text: &[u8], at: usize) -> TokenRead
-    requires { DigitAt text.now at }
-    ensures { TokenAt text.now at result }
+// What digits that stand together are.
+fn number_of(digits: &[u8]) -> Token
+    ensures { IsNumber digits.now result }
 {
-    let next = digits_end(text, at);
-    let read = number(&text[at..next], LARGEST_VALUE);
-    match read {
-        Number::Value(v) => TokenRead {
-            token: Token::Number(v as u16),
-            next,
-        },
-        Number::Nothing => TokenRead {
-            token: Token::Foreign,
-            next,
-        },
+    match number(digits, LARGEST_VALUE) {
+        Some(v) => Token::Number(v as u16),
+        None => Token::Foreign,
+    }
+}
+
+// What another byte is.
+#[tactic(auto, unfolding(notation::specs::Parse::with_byte))]
+fn token_of(b: u8) -> Token
+    ensures { IsByte b result }
+{
+    match b {
+        b' ' => Token::Blank,
+        b'(' => Token::Opening,
+        b')' => Token::Closing,
+        b'.' => Token::Dot,
+        _ => Token::Foreign,
     }
 }
 
@@ -70,42 +69,15 @@ pub fn token_at(text: &[u8], at: usize) -> TokenRead
     ensures { TokenAt text.now at result }
 {
     let b = text[at];
-    let next = at + 1;
-    if b == b' ' {
+    if b.is_ascii_digit() {
+        let next = digits_end(text, at);
         return TokenRead {
-            token: Token::Blank,
+            token: number_of(&text[at..next]),
             next,
         };
     }
-    if b == b'(' {
-        return TokenRead {
-            token: Token::Opening,
-            next,
-        };
+    TokenRead {
+        token: token_of(b),
+        next: at + 1,
     }
-    if b == b')' {
-        return TokenRead {
-            token: Token::Closing,
-            next,
-        };
-    }
-    if b == b'.' {
-        return TokenRead {
-            token: Token::Dot,
-            next,
-        };
-    }
-    if b < b'0' {
-        return TokenRead {
-            token: Token::Foreign,
-            next,
-        };
-    }
-    if b'9' < b {
-        return TokenRead {
-            token: Token::Foreign,
-            next,
-        };
-    }
-    number_at(text, at)
 }

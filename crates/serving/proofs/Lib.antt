@@ -1,2 +1,3 @@
 pub mod ServeLaws
 pub mod ChainLaws
+pub mod ThreadsLaws

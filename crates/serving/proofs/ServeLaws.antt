@@ -4,7 +4,6 @@ use mathlib.Core.Logic.{inl, inr, ⊎_elim}
 use mathlib.Core.Bool.{false}
 use mathlib.Core.List.{List, []}
 use Prim.Native.Nat.{ℕ, zero, suc}
-use lib.ListN.{length}
 use Rattle.machine.specs.declared.Queue.{Queue}
 use Rattle.machine.specs.declared.RowCall as declared
 use Rattle.machine.specs.Words.{most_cells}
@@ -21,18 +20,12 @@ use Rattle.soundness.proofs.CallSound.{fresh_whole, decided, promise_whole}
 use Rattle.line_text.specs.declared.Request.{Request}
 use Rattle.line_text.specs.declared.Verdict.{Verdict}
 use Rattle.line_text.specs.Verdicts.{verdict_of}
-use Rattle.serving.specs.Serving.{called, served, unmade, Good}
+use Rattle.serving.specs.Serving.{called, served, unmade, Good, Serves}
 
 -- before a fresh
 pub unmade_good : Good (unmade most_cells).table (unmade most_cells).queue
 unfolding capacity
 unmade_good = inl refl
-
--- verdict and store are the listing's, and the store is good again
-pub record Serves (s : Store) (request : Request) (v : Verdict) (s' : Store) : Type 0 where
-  pub verdict : v ≡ (served s request).verdict
-  pub after : s' ≡ (served s request).after
-  pub good : Good s'.table s'.queue
 
 -- reply and store are the machine's, and the store is good again
 pub record Exact (s : Store) (call : Call) (r : Reply) (s' : Store) : Type 0 where
@@ -144,37 +137,18 @@ module _ {t : List ℕ} {q : Queue} {scratch t' : List ℕ} {q' : Queue} {v : Ve
       let k = called_by (store t q scratch) call r v (store t' q' scratch) reply after told in
       (k.0, k.1, e.good)
 
-  pub fresh_serves : {c : ℕ} → Promise (store t q []) (fresh c) r (store t' q' []) → Serves (store t q scratch) (Request.Fresh c) v (store t' q' scratch)
-  fresh_serves {c} p = let d = from_lent (fresh c) (fresh_beside t q scratch c) p in record { verdict = d.0; after = d.1; good = d.2 }
+  pub fresh_serves : (c : ℕ) → Promise (store t q []) (fresh c) r (store t' q' []) → Serves (served (store t q scratch) (Request.Fresh c)) v (store t' q' scratch)
+  fresh_serves c p = let d = from_lent (fresh c) (fresh_beside t q scratch c) p in record { verdict = d.0; after = d.1; good = d.2 }
 
-  pub row_serves : {call : declared.RowCall} → Promise (store t q []) (row (call_of call)) r (store t' q' [])
-      → Serves (store t q scratch) (Request.Row call) v (store t' q' scratch)
-  row_serves {call} p =
+  pub row_serves : (call : declared.RowCall) → Promise (store t q []) (row (call_of call)) r (store t' q' [])
+      → Serves (served (store t q scratch) (Request.Row call)) v (store t' q' scratch)
+  row_serves call p =
       let d = from_lent (row (call_of call)) (row_beside t q scratch (call_of call)) p in
       record { verdict = d.0; after = d.1; good = d.2 }
 
   pub step_serves : {scratch' : List ℕ} → Promise (store t q scratch) step r (store t' q' scratch')
-      → Serves (store t q scratch) Request.Step v (store t' q' scratch')
+      → Serves (served (store t q scratch) Request.Step) v (store t' q' scratch')
   step_serves {scratch'} p =
       let e = exact (store t q scratch) step r (store t' q' scratch') p g in
       let k = called_by (store t q scratch) step r v (store t' q' scratch') e.reply e.after told in
       record { verdict = k.0; after = k.1; good = e.good }
-
-pub bad_serves : {t : List ℕ} {q : Queue} {scratch : List ℕ} → Good t q → Serves (store t q scratch) Request.Bad Verdict.Bad (store t q scratch)
-bad_serves g = record { verdict = refl; after = refl; good = g }
-
--- a request answered: the lengths of the lent slices stand
-pub record Answers (t : List ℕ) (queue : Queue) (scratch : List ℕ) (request : Request) (v : Verdict) (t' : List ℕ) (queue' : Queue) (scratch' : List ℕ) :
-    Type 0 where
-  pub serves : Good t queue → Serves (store t queue scratch) request v (store t' queue' scratch')
-  pub table_size : length t' ≡ length t
-  pub scratch_size : length scratch' ≡ length scratch
-
--- from what an arm knows: which request it is, and what table, scratch, queue and verdict are after it
-pub answers : {t : List ℕ} {queue : Queue} {scratch : List ℕ} {request asked : Request} {v w : Verdict} {t' u : List ℕ} {queue' q : Queue}
-    {scratch' z : List ℕ}
-    → request ≡ asked → t' ≡ u → scratch' ≡ z → queue' ≡ q → v ≡ w
-    → (Good t queue → Serves (store t queue scratch) asked w (store u q z)) → length u ≡ length t → length z ≡ length scratch
-    → Answers t queue scratch request v t' queue' scratch'
-answers er et es eq ev serves table_size scratch_size =
-    rw (er, et, es, eq, ev) (record { serves = serves; table_size = table_size; scratch_size = scratch_size })

@@ -1,3 +1,4 @@
 -- Requests served by the store.
 pub mod Serving
 pub mod Chain
+pub mod Threads

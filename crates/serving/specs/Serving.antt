@@ -1,5 +1,5 @@
 -- A request served by the machine: what is said of its reply, and the store afterwards. The stores that a program which serves requests can have.
-use Rattle.std.specs.Prelude.{◌≡◌, ◌⊎◌, List, ℕ, replicate}
+use Rattle.std.specs.Prelude.{◌≡◌, ◌⊎◌, Option, Some, None, List, ℕ, replicate}
 use Rattle.machine.specs.declared.Queue.{Queue}
 use Rattle.machine.specs.Table.{capacity, table_length, scratch_words}
 use Rattle.machine.specs.Queue.{empty_queue}
@@ -23,7 +23,11 @@ abbrev pub served : Store → Request → Served
 served s (Request.Fresh c) = called s (fresh c)
 served s (Request.Row call) = called s (row (call_of call))
 served s Request.Step = called s step
-served s Request.Bad = record { verdict = Verdict.Bad; after = s }
+
+-- a line that asks for nothing leaves the store as it is
+abbrev pub served_line : Store → Option Request → Served
+served_line s (Some request) = served s request
+served_line s None = record { verdict = Verdict.Bad; after = s }
 
 -- before a fresh the table is zero
 abbrev pub unmade : ℕ → Store
@@ -32,3 +36,9 @@ unmade c = store (replicate (table_length c) 0) empty_queue (replicate (scratch_
 -- a store without an accepted fresh yet, or a sound one
 abbrev pub Good : List ℕ → Queue → Type 0
 Good t q = (capacity t ≡ 0) ⊎ Whole t q
+
+-- verdict and store are these, and the store is good again
+pub record Serves (o : Served) (v : Verdict) (s' : Store) : Type 0 where
+  pub verdict : v ≡ o.verdict
+  pub after : s' ≡ o.after
+  pub good : Good s'.table s'.queue

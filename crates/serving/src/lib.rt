@@ -1,5 +1,7 @@
-// What an output line says of an answer of the store.
+// What an output line says of an answer of the store, and requests served.
 #![tactic(auto)]
+
+pub mod requests;
 
 ghost use Rattle.std.specs.Prelude.{◌≡◌};
 ghost use Rattle.machine.specs.Calls.{refused};
@@ -34,12 +36,29 @@ pub fn row_verdict(answer: RowAnswer) -> Verdict
     }
 }
 
+// Of a step that was taken.
+fn stepped(step: Step) -> Verdict
+    ensures { result ≡ verdict_of (step_reply (Ok step)) }
+{
+    match step {
+        Step::Idle => Verdict::Idle,
+        Step::Applied { kind: _, freed } => Verdict::Ok(freed),
+    }
+}
+
 pub fn step_verdict(answer: StepAnswer) -> Verdict
     ensures { result ≡ verdict_of (step_reply answer) }
 {
     match answer {
-        Ok(Step::Idle) => Verdict::Idle,
-        Ok(Step::Applied { kind: _, freed }) => Verdict::Ok(freed),
+        Ok(step) => stepped(step),
         Err(refusal) => refused(refusal),
     }
+}
+
+// After a part of the input: what is carried on, how much was taken, and how much was written.
+#[derive(Clone, Copy)]
+pub struct Fed<S> {
+    pub state: S,
+    pub taken: usize,
+    pub written: usize,
 }

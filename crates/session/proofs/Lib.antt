@@ -1,1 +1,1 @@
-pub mod ThreadingLaws
+mod ThreadingLaws

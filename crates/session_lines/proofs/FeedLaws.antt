@@ -1,16 +1,17 @@
 -- Lines one after the other, and the end of the input.
 use mathlib.Core.Path.{◌≡◌, refl, sym, ap, ◌∙◌}
-use mathlib.Core.Bool.{true, false, true≢false, false≢true}
 use mathlib.Core.List.{List, [], ◌∷◌, ◌++◌}
-use Prim.Native.Nat.{ℕ, zero, suc, ◌+◌, ◌-◌, ◌≤◌, ◌<◌, min}
+use Prim.Native.Nat.{ℕ, zero, suc, ◌+◌, ◌-◌, ◌≤◌, ◌<◌}
 use native.Mathlib.Omega.{arith}
+use borrow.Author.Rules.{rules}
+use Rattle.std.specs.Prelude.{Option, Some, None}
 use lib.ListN.{length, take, drop, length-drop, take-append-drop}
 use lib.Seq.{take-add, take-length}
 use Rattle.base_ten.specs.Bytes.{line_feed, before, split}
 use Rattle.base_ten.specs.Lines.{last_line}
 use Rattle.base_ten.specs.Put.{Put}
 use Rattle.base_ten.proofs.LineLaws.{last_line_lem}
-use Rattle.base_ten.proofs.KeepLaws.{last_part, take_cap}
+use Rattle.base_ten.proofs.KeepLaws.{last_part}
 use Rattle.base_ten.proofs.WordLaws.{append_none, before_most}
 use Rattle.machine.specs.declared.Queue.{Queue}
 use Rattle.machine.specs.Calls.{store}
@@ -19,37 +20,36 @@ use Rattle.line_text.specs.declared.Verdict.{Verdict}
 use Rattle.line_text.specs.Requests.{request_of}
 use Rattle.line_text.specs.Kept.{kept_bytes, Keeps}
 use Rattle.line_text.specs.Texts.{room, output_line}
-use Rattle.line_text.specs.Put.{ShowsTens, Next}
+use Rattle.line_text.specs.Put.{Next}
 use Rattle.line_text.proofs.PutLaws.{output_length}
 use Rattle.session_lines.specs.declared.Session.{Session}
 use Rattle.session_lines.specs.Listing.{listed}
-use Rattle.serving.specs.Serving.{Good}
-use Rattle.serving.proofs.ServeLaws.{Serves}
+use Rattle.serving.specs.Serving.{served_line, Good, Serves}
 use Rattle.session_lines.specs.Progress.{session_of, begun_line, ahead, Tells, FeedsLines, Finishes, FinishesWithRoom}
 use Rattle.session_lines.proofs.TellsLaws.{line_tells, joined_tells, ended_tells, tells_both}
 
--- How far the lines have come: the sizes stand, the number is shown, and what was taken gave what was written.
-pub record Going (table₀ scratch₀ input out₀ line : List ℕ) (s₀ : Session) (table scratch out : List ℕ) (held lines : ℕ) (queue : Queue)
-    (number : List ℕ) (size taken written feed : ℕ) : Type 0 where
+-- How far the lines have come: the sizes stand, the count is the session's, and what was taken gave what was written.
+pub record Going (table₀ scratch₀ input out₀ : List ℕ) (s₀ : Session) (table scratch out : List ℕ) (s : Session) (count taken written feed : ℕ) : Type 0 where
   pub most : taken ≤ length input
   pub within : written ≤ length out
   pub nothing : taken ≡ 0 → written ≡ 0
-  pub none : 0 < taken → held ≡ 0
+  pub none : 0 < taken → s.held ≡ 0
   pub found : feed ≡ taken + before line_feed (drop taken input)
-  pub shown : ShowsTens number size lines
+  pub counted : count ≡ s.lines
+  pub line_size : length s.line ≡ length s₀.line
   pub table_size : length table ≡ length table₀
   pub scratch_size : length scratch ≡ length scratch₀
   pub out_size : length out ≡ length out₀
-  pub tells : Tells s₀ table₀ scratch₀ (take taken input) (take written out) (session_of line held lines queue) table scratch
+  pub tells : Tells s₀ table₀ scratch₀ (take taken input) (take written out) s table scratch
 
 module _ (input : List ℕ) (taken : ℕ) {feed : ℕ} (found : feed ≡ taken + before line_feed (drop taken input))
     {s₀ s : Session} {t₀ scratch₀ t scratch : List ℕ} (out : List ℕ) (written : ℕ)
     (told : Tells s₀ t₀ scratch₀ (take taken input) (take written out) s t scratch) where
   -- the next line served
-  pub next_tells : {request : Request} {v : Verdict} {lines : ℕ} {t' : List ℕ} {queue : Queue} {scratch' : List ℕ} {end : ℕ} {new line : List ℕ}
+  pub next_tells : {asked : Option Request} {v : Verdict} {lines : ℕ} {t' : List ℕ} {queue : Queue} {scratch' : List ℕ} {end : ℕ} {new line : List ℕ}
       → feed < length input
-      → request ≡ request_of (begun_line s ++ take (feed - taken) (drop taken input))
-      → (Good t s.queue → Serves (store t s.queue scratch) request v (store t' queue scratch'))
+      → asked ≡ request_of (begun_line s ++ take (feed - taken) (drop taken input))
+      → (Good t s.queue → Serves (served_line (store t s.queue scratch) asked) v (store t' queue scratch'))
       → Next s.lines lines
       → Put out written (output_line lines v) new end
       → Tells s₀ t₀ scratch₀ (take (feed + 1) input) (take end new) (session_of line 0 lines queue) t' scratch'
@@ -99,11 +99,10 @@ one_taken input (suc (suc n)) feed e found past most = absurd (never (rw e at mo
     never : suc (suc n) ≤ 1 → ⊥
     never p = omega arith
 
-module _ {table₀ scratch₀ input out₀ line : List ℕ} {s₀ : Session} {table scratch out : List ℕ} {held lines : ℕ} {queue : Queue}
-    {number : List ℕ} {size taken written feed : ℕ}
-    (going : Going table₀ scratch₀ input out₀ line s₀ table scratch out held lines queue number size taken written feed) where
+module _ {table₀ scratch₀ input out₀ : List ℕ} {s₀ : Session} {table scratch out : List ℕ} {s : Session} {count taken written feed : ℕ}
+    (going : Going table₀ scratch₀ input out₀ s₀ table scratch out s count taken written feed) where
   -- no room for a line
-  pub stopped : length out - written < room → FeedsLines s₀ table₀ scratch₀ input (session_of line held lines queue) taken written table scratch out
+  pub stopped : length out - written < room → FeedsLines s₀ table₀ scratch₀ input s taken written table scratch out
   stopped low = record {
     feeds = record {
       most = going.most;
@@ -116,9 +115,9 @@ module _ {table₀ scratch₀ input out₀ line : List ℕ} {s₀ : Session} {ta
   }
 
   -- no line feed
-  pub ended : {new : List ℕ} {held' : ℕ} → length input ≤ feed → length line ≡ kept_bytes
-      → Keeps line held (take (length input - taken) (drop taken input)) new held'
-      → FeedsLines s₀ table₀ scratch₀ input (session_of new held' lines queue) (length input) written table scratch out
+  pub ended : {new : List ℕ} {held' : ℕ} → length input ≤ feed → length s.line ≡ kept_bytes
+      → Keeps s.line s.held (take (length input - taken) (drop taken input)) new held'
+      → FeedsLines s₀ table₀ scratch₀ input (session_of new held' s.lines s.queue) (length input) written table scratch out
   ended past whole kept = record {
     feeds = record {
       most = omega arith;
@@ -129,52 +128,47 @@ module _ {table₀ scratch₀ input out₀ line : List ℕ} {s₀ : Session} {ta
     };
     closed = λ e r.
         let one : taken ≡ 1 = one_taken input taken feed e going.found past going.most in
-        let zero_held : held ≡ 0 = going.none (omega arith) in
-        kept.front whole ∙ rw (e, one, zero_held);
+        let zero_held : s.held ≡ 0 = going.none (omega arith) in
+        (rw whole at kept.front) ∙ rw (e, one, zero_held);
   }
 
-module _ (s : Session) {held : ℕ} (size : length s.line ≡ kept_bytes) (capped : held ≡ min s.held kept_bytes) where
-  begun : begun_line s ≡ take held s.line
-  begun =
-      let e : min s.held (length s.line) ≡ held = rw (size, capped) refl in
-      take_cap s.held s.line ∙ ap (λ (k : ℕ). take k s.line) e
+-- no line has begun
+pub finish_none : (s : Session) {t scratch out : List ℕ} → s.held ≡ 0 → Finishes s t scratch 0 out
+unfolding ahead split listed
+finish_none s {t} {scratch} e = record {
+  within = omega arith;
+  listing = λ g l. ap (λ (k : ℕ). listed s.lines (store t s.queue scratch) (last_line (take k s.line))) e;
+}
 
-  -- no line has begun
-  pub finish_none : {t scratch out : List ℕ} → held ≡ 0 → Finishes s t scratch 0 out
-  unfolding ahead split listed
-  finish_none {t} {scratch} e = record {
-    within = omega arith;
-    listing = λ g l. ap (λ (x : List ℕ). listed s.lines (store t s.queue scratch) (last_line x)) (begun ∙ ap (λ (k : ℕ). take k s.line) e);
-  }
-
-  -- the line feed that is missing
-  pub finish_line : {t scratch : List ℕ} {s' : Session} {taken written : ℕ} {t' scratch' out : List ℕ} → (held ≡ 0 → ⊥) → room ≤ length out
-      → FeedsLines s t scratch (line_feed ∷ []) s' taken written t' scratch' out → Finishes s t scratch written out
-  unfolding ahead split listed
-  finish_line {t} {scratch} {s'} {taken} {written} {t'} {scratch'} {out} e r told = record {
-    within = told.feeds.within;
-    listing = λ g l.
-        let f = told.feeds in
-        let st = store t s.queue scratch in
-        let one : 0 < taken = f.some (omega arith) r in
-        let taken1 : taken ≡ 1 = omega (arith, f.most) in
-        let whole : take taken (line_feed ∷ []) ≡ line_feed ∷ [] = rw taken1 in
-        let begunOne : last_line (begun_line s) ≡ (begun_line s ++ []) ∷ [] =
-        rw begun (last_line_lem held s.line e (λ z. omega arith)) ∙ ap (λ (x : List ℕ). x ∷ []) (sym (append_none (begun_line s))) in
-        let closed : ahead s' t' scratch' [] ≡ [] =
-        ap (λ (x : List ℕ). listed s'.lines (store t' s'.queue scratch') (last_line x)) (told.closed refl r) in
-        ap (listed s.lines st) begunOne
-        ∙ ap (λ (x : List ℕ). ahead s t scratch (x ++ [])) (sym whole)
-        ∙ f.tells.listing g (omega (arith, ap length whole)) []
-        ∙ ap (λ (x : List ℕ). take written out ++ x) closed
-        ∙ append_none (take written out);
-  }
+-- the line feed that is missing
+pub finish_line : (s : Session) {t scratch : List ℕ} {s' : Session} {taken written : ℕ} {t' scratch' out : List ℕ}
+    → length s.line ≡ kept_bytes → (s.held ≡ 0 → ⊥) → room ≤ length out
+    → FeedsLines s t scratch (line_feed ∷ []) s' taken written t' scratch' out → Finishes s t scratch written out
+unfolding ahead split listed
+finish_line s {t} {scratch} {s'} {taken} {written} {t'} {scratch'} {out} size e r told = record {
+  within = told.feeds.within;
+  listing = λ g l.
+      let f = told.feeds in
+      let st = store t s.queue scratch in
+      let one : 0 < taken = f.some (omega arith) r in
+      let taken1 : taken ≡ 1 = omega (arith, f.most) in
+      let whole : take taken (line_feed ∷ []) ≡ line_feed ∷ [] = rw taken1 in
+      let begun : last_line (begun_line s) ≡ (begun_line s ++ []) ∷ [] =
+      last_line_lem s.held s.line e (λ z. omega arith) ∙ ap (λ (x : List ℕ). x ∷ []) (sym (append_none (begun_line s))) in
+      let closed : ahead s' t' scratch' [] ≡ [] =
+      ap (λ (x : List ℕ). listed s'.lines (store t' s'.queue scratch') (last_line x)) (told.closed refl r) in
+      ap (listed s.lines st) begun
+      ∙ ap (λ (x : List ℕ). ahead s t scratch (x ++ [])) (sym whole)
+      ∙ f.tells.listing g (omega (arith, ap length whole)) []
+      ∙ ap (λ (x : List ℕ). take written out ++ x) closed
+      ∙ append_none (take written out);
+}
 
 -- all is written
-pub no_more : {s : Session} {t scratch out : List ℕ} {written : ℕ} {t' scratch' out' : List ℕ} → Finishes s t scratch written out'
-    → FinishesWithRoom s t scratch out written false t' scratch' out'
-no_more f = record { over = λ r. refl; finishes = λ e. f; unchanged = λ e. absurd (false≢true e) }
+pub all_told : {s : Session} {t scratch out : List ℕ} {written : ℕ} {t' scratch' out' : List ℕ} → Finishes s t scratch written out'
+    → FinishesWithRoom s t scratch out (Some written) t' scratch' out'
+all_told f = record { over = λ r. search rules; finishes = f }
 
 -- no room for the last line
-pub more_waits : {s : Session} {t scratch out : List ℕ} → length out < room → FinishesWithRoom s t scratch out 0 true t scratch out
-more_waits l = record { over = λ r. absurd (omega arith); finishes = λ e. absurd (true≢false e); unchanged = λ e. (refl, refl, refl, refl) }
+pub more_waits : {s : Session} {t scratch out : List ℕ} → length out < room → FinishesWithRoom s t scratch out None t scratch out
+more_waits l = record { over = λ r. absurd (omega arith); finishes = (refl, refl, refl) }

@@ -1,6 +1,6 @@
 -- The worked cases, by computation.
 use mathlib.Core.Path.{refl}
-use Rattle.base_ten.specs.Bytes.{split, same_bytes}
+use Rattle.base_ten.specs.Bytes.{split}
 use Rattle.base_ten.specs.Numbers.{number_from, number_of}
 use Rattle.base_ten.specs.Decimal.{digits}
 use Rattle.machine.proofs.Computes.{computes}
@@ -11,5 +11,5 @@ use Rattle.session_lines.specs.Listing.{listing_with, listed}
 use Rattle.session_lines.specs.Known.{Known}
 
 pub known : Known
-unfolding computes listing_with listed called split same_bytes number_from number_of with_none with_one with_two by_words request_of digits output_line
+unfolding computes listing_with listed called split number_from number_of with_none with_one with_two by_words request_of digits output_line
 known = (refl, (refl, (refl, (refl, (refl, (refl, (refl, (refl, (refl, (refl, (refl, (refl, (refl, tt)))))))))))))

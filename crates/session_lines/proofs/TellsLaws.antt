@@ -4,6 +4,7 @@ use mathlib.Core.List.{List, [], ◌∷◌, ◌++◌, append_assoc}
 use Prim.Native.Nat.{ℕ, ◌+◌, ◌<◌}
 use native.Mathlib.Numerals.{add-one}
 use native.Mathlib.Omega.{arith}
+use Rattle.std.specs.Prelude.{Option}
 use lib.ListN.{length, take, length-append}
 use lib.Seq.{length-take-le}
 use Rattle.base_ten.specs.Bytes.{line_feed, before, lines_of}
@@ -18,16 +19,15 @@ use Rattle.line_text.specs.Requests.{request_of}
 use Rattle.line_text.specs.Kept.{kept_bytes, Keeps}
 use Rattle.line_text.specs.Put.{Next}
 use Rattle.line_text.specs.Texts.{output_line}
-use Rattle.serving.specs.Serving.{Good}
+use Rattle.serving.specs.Serving.{served_line, Good, Serves}
 use Rattle.session_lines.specs.Listing.{listed}
-use Rattle.serving.proofs.ServeLaws.{Serves}
 use Rattle.session_lines.specs.Progress.{session_of, begun_line, ahead, TellsLine, Tells}
 use Rattle.session_lines.proofs.LineLaws.{listed_capped}
 
 -- a served line's output is its line of the listing
-pub line_tells : {line : List ℕ} {lines : ℕ} {s : Store} {request : Request} {v : Verdict} {s' : Store} {number : ℕ}
-    → request ≡ request_of line
-    → (Good s.table s.queue → Serves s request v s')
+pub line_tells : {line : List ℕ} {lines : ℕ} {s : Store} {asked : Option Request} {v : Verdict} {s' : Store} {number : ℕ}
+    → asked ≡ request_of line
+    → (Good s.table s.queue → Serves (served_line s asked) v s')
     → Next lines number
     → TellsLine line lines s (output_line number v) number s'
 unfolding listed
@@ -51,7 +51,7 @@ joined_tells s part {t = t} {scratch = scratch} all size kept = record {
       let st = store t s.queue scratch in
       ap (listed s.lines st) (lines_joined (begun_line s) part rest all)
       ∙ listed_capped s.lines st (begun_line s ++ part) (lines_of rest)
-      ∙ ap (λ (x : List ℕ). listed s.lines st (onto x (lines_of rest))) (sym (kept.front size));
+      ∙ ap (λ (x : List ℕ). listed s.lines st (onto x (lines_of rest))) (sym (rw size at kept.front));
 }
 
 -- with its line feed the line is whole

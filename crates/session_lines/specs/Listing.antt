@@ -5,13 +5,13 @@ use Rattle.machine.specs.Words.{most_cells}
 use Rattle.machine.specs.Calls.{Store}
 use Rattle.line_text.specs.Requests.{request_of}
 use Rattle.line_text.specs.Texts.{output_line}
-use Rattle.serving.specs.Serving.{served, unmade}
+use Rattle.serving.specs.Serving.{served_line, unmade}
 
 -- the output of these lines, after so many
 unfoldable pub listed : ℕ → Store → List (List ℕ) → List ℕ
 listed n s [] = []
 listed n s (line ∷ rest) =
-    let r = served s (request_of line) in
+    let r = served_line s (request_of line) in
     output_line (suc n) r.verdict ++ listed (suc n) r.after rest
 
 -- with a table for c cells

@@ -1,5 +1,5 @@
 -- How far a session has come: what is still to be written follows from its state and the input to come.
-use Rattle.std.specs.Prelude.{◌≡◌, Bool, true, false, List, [], ◌∷◌, ◌++◌, ℕ, ◌+◌, ◌^◌, ◌≤◌, ◌<◌, length, take, replicate}
+use Rattle.std.specs.Prelude.{◌≡◌, Option, IsSome, MatchOption, List, [], ◌∷◌, ◌++◌, ℕ, ◌+◌, ◌^◌, ◌≤◌, ◌<◌, length, take, replicate}
 use Rattle.base_ten.specs.Bytes.{line_feed, lines_of}
 use Rattle.base_ten.specs.Lines.{onto}
 use Rattle.machine.specs.declared.Queue.{Queue}
@@ -56,8 +56,8 @@ pub record Finishes (s : Session) (t scratch : List ℕ) (written : ℕ) (out : 
   pub within : written ≤ length out
   pub listing : Good t s.queue → s.lines + 1 < 2 ^ 64 → ahead s t scratch [] ≡ take written out
 
--- Any buffer may be lent for that: with room for an output line there is no more to write. While there is more, nothing is written and nothing has changed.
-pub record FinishesWithRoom (s : Session) (t scratch out : List ℕ) (written : ℕ) (more : Bool) (t' scratch' out' : List ℕ) : Type 0 where
-  pub over : room ≤ length out → more ≡ false
-  pub finishes : more ≡ false → Finishes s t scratch written out'
-  pub unchanged : more ≡ true → (written ≡ 0) × (t' ≡ t) × (scratch' ≡ scratch) × (out' ≡ out)
+-- Any buffer may be lent for that: with room for an output line all is written, and how much is told. Without room nothing may be told, and then nothing has
+-- changed.
+pub record FinishesWithRoom (s : Session) (t scratch out : List ℕ) (written : Option ℕ) (t' scratch' out' : List ℕ) : Type 0 where
+  pub over : room ≤ length out → IsSome written
+  pub finishes : MatchOption written ((t' ≡ t) × (scratch' ≡ scratch) × (out' ≡ out)) (λ n. Finishes s t scratch n out')

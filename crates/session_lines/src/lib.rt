@@ -6,10 +6,11 @@ mod lines;
 ghost use Rattle.std.specs.Prelude.{◌≡◌};
 ghost use Rattle.session_lines.specs.Progress.{started, Feeds, FinishesWithRoom};
 
-use line_text::kept::{KEPT_BYTES, capped};
+use line_text::kept::KEPT_BYTES;
 use line_text::texts::ROOM;
 use lines::serve_lines;
 use machine::Queue;
+use serving::Fed;
 
 // What is carried from one part of the input to the next: the first bytes of the present line, the number of lines before it, and the queue.
 #[derive(Clone, Copy)]
@@ -33,14 +34,6 @@ impl Session {
     }
 }
 
-// After a part of the input: the session, how much was taken, and how much was written.
-#[derive(Clone, Copy)]
-pub struct Fed {
-    pub session: Session,
-    pub taken: usize,
-    pub written: usize,
-}
-
 // Takes the input as far as the buffer has room for one more output line.
 pub fn feed(
     session: Session,
@@ -48,41 +41,29 @@ pub fn feed(
     scratch: &mut [u16],
     input: &[u8],
     out: &mut [u8],
-) -> Fed
+) -> Fed<Session>
     ensures { Feeds session table.old scratch.old input.now
-        result.session result.taken result.written table.new scratch.new out.new }
+        result.state result.taken result.written table.new scratch.new out.new }
 {
     serve_lines(session, table, scratch, input, out)
 }
 
-// After the end of the input: how much was written, and whether there is more.
-#[derive(Clone, Copy)]
-pub struct Written {
-    pub written: usize,
-    pub more: bool,
-}
-
-// At the end of the input a last line without its line feed is served. Where the buffer has no room for its output line nothing is done, and there is more.
-pub fn finish(session: Session, table: &mut [u16], scratch: &mut [u16], out: &mut [u8]) -> Written
-    ensures { FinishesWithRoom session table.old scratch.old out.old
-        result.written result.more table.new scratch.new out.new }
+// At the end of the input a last line without its line feed is served, and how much was written is told. Where the buffer has no room for its output line
+// nothing is done.
+pub fn finish(
+    session: Session,
+    table: &mut [u16],
+    scratch: &mut [u16],
+    out: &mut [u8],
+) -> Option<usize>
+    ensures { FinishesWithRoom session table.old scratch.old out.old result table.new scratch.new out.new }
 {
-    let held = capped(session.held);
-    if held == 0 {
-        return Written {
-            written: 0,
-            more: false,
-        };
+    if session.held == 0 {
+        return Some(0);
     }
     if out.len() < ROOM {
-        return Written {
-            written: 0,
-            more: true,
-        };
+        return None;
     }
     let fed = serve_lines(session, table, scratch, b"\n", out);
-    Written {
-        written: fed.written,
-        more: false,
-    }
+    Some(fed.written)
 }

@@ -16,7 +16,7 @@ fn mix_word(sum: u64, m: u16) -> u64
     requires { sum < modulus }
     ensures { (result ≡ mixed sum m) × (result < modulus) }
 {
-    mix(sum, m as u64)
+    mix(sum, u64::from(m))
 }
 
 fn mix_words(sum: u64, words: &[u16]) -> u64
@@ -24,29 +24,24 @@ fn mix_words(sum: u64, words: &[u16]) -> u64
     ensures { result < modulus }
 {
     let mut s = sum;
-    let mut i: usize = 0;
-    while i < words.len() {
-        s = mix_word(s, words[i]);
-        i += 1;
+    for word in words {
+        s = mix_word(s, *word);
     }
     s
 }
 
-fn mix_slots(sum: u64, queue: Queue) -> u64
+fn mix_slots(sum: u64, queue: &Queue) -> u64
     requires { sum < modulus }
     ensures { result < modulus }
 {
     let mut s = sum;
-    let mut j: usize = 0;
-    while j < SLOTS {
-        let words = slot_words(queue, j);
-        s = mix_words(s, &words);
-        j += 1;
+    for j in 0..SLOTS {
+        s = mix_words(s, &slot_words(queue, j));
     }
     s
 }
 
-pub fn checksum_of(table: &[u16], queue: Queue, scratch: &[u16]) -> u64
+pub fn checksum_of(table: &[u16], queue: &Queue, scratch: &[u16]) -> u64
     ensures { result < modulus }
 {
     let s = mix_words(mix(0, table.len() as u64), table);

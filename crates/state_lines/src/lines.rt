@@ -1,123 +1,147 @@
-// What a line does to the store, or which call it is.
-ghost use Rattle.std.specs.Prelude.{◌≡◌, ◌<◌, ◌≤◌, length, get_or};
-ghost use Rattle.state_lines.specs.Sizes.{Fits};
+// A store as the lines of a list make it.
+ghost use Rattle.std.specs.Prelude.{◌≡◌, ◌<◌, ◌≤◌, [], length, take};
+ghost use Rattle.machine.specs.Calls as machine;
+ghost use Rattle.machine.specs.Calls.{store};
+ghost use Rattle.machine.specs.Queue.{empty_queue};
+ghost use Rattle.state_lines.specs.Checksum.{modulus};
 
-use crate::arrays::{SCRATCH, TABLE};
-use crate::queue::{index, queue_of};
-use crate::runs::expand;
+use crate::checksum::checksum_of;
+use crate::queue::{Packets, queue_of};
+use crate::runs::{Runs, expand};
 use machine::Queue;
+use std::fmt;
+use std::marker::Model;
 
-// The queue, and how many words at the front of two arrays are the table and the scratch.
-#[derive(Clone, Copy, Drop)]
+// A little more than the longest table: lists have tables with words behind their cells, to show that no call touches them.
+pub const TABLE: usize = cells::MOST_WORDS + 17;
+
+// For the same reason a little more than the longest scratch that is used.
+pub const SCRATCH: usize = cells::MOST_SCRATCH + 4;
+
+// The queue, and two arrays of which so many words at the front are the table and the scratch.
+#[derive(Drop)]
 pub struct Store {
-    pub table: usize,
-    pub scratch: usize,
-    pub queue: Queue,
+    table: [u16; TABLE],
+    table_words: usize,
+    scratch: [u16; SCRATCH],
+    scratch_words: usize,
+    queue: Queue,
 }
 
-// A call by its letter, its code and its operands: of reading a text p is its length, of writing one p, q and r are the word, the room and the byte that
-// the buffer is filled with before.
-#[derive(Clone, Copy, Drop)]
-pub struct Call {
-    pub letter: u8,
-    pub code: u16,
-    pub p: u16,
-    pub q: u16,
-    pub r: u16,
+// Clauses see the machine's store.
+impl Model for Store {
+    ghost Value = { machine.Store };
+
+    ghost view = { λ s. store (take s.table_words s.table) s.queue (take s.scratch_words s.scratch) };
+
+    ghost invariant = { λ s. (s.table_words ≤ length s.table) × (s.scratch_words ≤ length s.scratch) };
 }
 
-pub fn no_store() -> Store
-    ensures { (result.table ≡ 0) × (result.scratch ≡ 0) }
-{
-    Store {
-        table: 0,
-        scratch: 0,
-        queue: Queue::empty(),
-    }
-}
-
-fn put_word(line: &[u16], table: &mut [u16; TABLE]) {
-    if line.len() < 3 {
-        return;
-    }
-    let i = index(line[1]);
-    if i < TABLE {
-        table[i] = line[2];
-    }
-}
-
-// The store after a line that is no call; one with a letter that has no meaning here, such as a title, changes nothing.
-pub fn changed(
-    letter: u8,
-    line: &[u16],
-    table: &mut [u16; TABLE],
-    scratch: &mut [u16; SCRATCH],
-    store: Store,
-) -> Store
-    requires { Fits store }
-    ensures { Fits result }
-{
-    match letter {
-        b'T' => Store {
-            table: expand(line, table),
-            scratch: 0,
+impl Store {
+    // No words, and no packets.
+    pub fn new() -> Store
+        ensures { result ≡ store [] empty_queue [] }
+    {
+        Store {
+            table: [0; TABLE],
+            table_words: 0,
+            scratch: [0; SCRATCH],
+            scratch_words: 0,
             queue: Queue::empty(),
-        },
-        b'S' => {
-            let queue = store.queue;
-            Store {
-                table: store.table,
-                scratch: expand(line, scratch),
-                queue,
+        }
+    }
+
+    pub fn table(&self) -> &[u16]
+        ensures { result.now ≡ self.now.table }
+    {
+        &self.table[..self.table_words]
+    }
+
+    pub fn scratch(&self) -> &[u16]
+        ensures { result.now ≡ self.now.scratch }
+    {
+        &self.scratch[..self.scratch_words]
+    }
+
+    pub fn queue(&self) -> &Queue
+        ensures { result.now ≡ self.now.queue }
+    {
+        &self.queue
+    }
+
+    pub fn checksum(&self) -> u64
+        ensures { result < modulus }
+    {
+        checksum_of(self.table(), &self.queue, self.scratch())
+    }
+
+    // Makes a call on the table, the queue and the scratch; the queue that it gives back is the store's from then on. Gives what else the call gives.
+    pub fn call<R, F: FnOnce(&mut [u16], Queue, &mut [u16]) -> (R, Queue)>(&mut self, call: F) -> R
+        requires { F.IsAlwaysCallable call }
+    {
+        let Store {
+            table,
+            table_words,
+            scratch,
+            scratch_words,
+            queue,
+        } = self;
+        let (given, after) = on_fronts(table, *table_words, scratch, *scratch_words, *queue, call);
+        *queue = after;
+        given
+    }
+
+    // Does what a line says that is no call; one with a letter that has no meaning here, such as a title, changes nothing.
+    pub fn change(&mut self, letter: u8, numbers: &[u16]) {
+        match letter {
+            b'T' => {
+                self.table_words = expand(numbers, &mut self.table);
+                self.scratch_words = 0;
+                self.queue = Queue::empty();
+            }
+            b'S' => self.scratch_words = expand(numbers, &mut self.scratch),
+            b'Q' => self.queue = queue_of(numbers),
+            b'W' => self.put_word(numbers),
+            _ => {}
+        }
+    }
+
+    fn put_word(&mut self, numbers: &[u16]) {
+        if let [i, word, ..] = numbers {
+            let i = usize::from(*i);
+            if i < TABLE {
+                self.table[i] = *word;
             }
         }
-        b'Q' => Store {
-            table: store.table,
-            scratch: store.scratch,
-            queue: queue_of(line),
-        },
-        b'W' => {
-            put_word(line, table);
-            store
-        }
-        _ => store,
     }
 }
 
-// The number at a place of a line, 0 where it has fewer.
-pub fn number_at(line: &[u16], i: usize) -> u16
-    ensures { result ≡ get_or line.now i 0 }
+// Makes a call on so many words at the front of each.
+fn on_fronts<R, F: FnOnce(&mut [u16], Queue, &mut [u16]) -> (R, Queue)>(
+    table: &mut [u16],
+    table_words: usize,
+    scratch: &mut [u16],
+    scratch_words: usize,
+    queue: Queue,
+    call: F,
+) -> (R, Queue)
+    requires table { table_words ≤ length table.old }
+    requires scratch { scratch_words ≤ length scratch.old }
+    requires call { F.IsAlwaysCallable call }
 {
-    if i < line.len() {
-        return line[i];
-    }
-    0
+    call(
+        &mut table[..table_words],
+        queue,
+        &mut scratch[..scratch_words],
+    )
 }
 
-// The call that a line is.
-pub fn call_of(letter: u8, line: &[u16]) -> Call
-    ensures { result.letter ≡ letter }
-{
-    Call {
-        letter,
-        code: number_at(line, 1),
-        p: number_at(line, 2),
-        q: number_at(line, 3),
-        r: number_at(line, 4),
+// The three lines of a store, without the last line feed.
+impl fmt::Display for Store {
+    fn fmt<W: fmt::Write>(&self, f: &mut fmt::Formatter<W>) -> fmt::Result {
+        let table = Runs(self.table());
+        let queue = Packets(&self.queue);
+        let scratch = Runs(self.scratch());
+        write!(f, "T {table}\nQ {queue}\nS {scratch}")
     }
-}
-
-// A text's bytes, behind its length in the line: how many were taken.
-pub fn text_of(line: &[u16], text: &mut [u8]) -> usize
-    ensures { result ≤ length text.new }
-{
-    let mut n: usize = 0;
-    while n < text.len() {
-        if line.len() <= n + 3 {
-            return n;
-        }
-        text[n] = (line[n + 3] % 256) as u8;
-        n += 1;
-    }
-    n
 }

@@ -2,89 +2,58 @@
 ghost use Rattle.std.specs.Prelude.{◌<◌};
 ghost use Rattle.machine.specs.Queue.{slots};
 
-use crate::output::{put_name, put_number, put_word, put_words};
 use machine::Queue;
-use std::io;
+use std::fmt;
 
 pub const SLOTS: usize = Queue::SLOTS as usize;
 
-pub fn index(w: u16) -> usize {
-    w as usize
-}
-
-// One word of every slot, the f-th after the slot's number.
-fn field(line: &[u16], f: usize) -> [u16; SLOTS]
-    requires { f < 5 }
-{
-    let mut words = [0u16; SLOTS];
-    let mut k: usize = 4;
-    while k + 4 < line.len() {
-        let j = index(line[k]);
-        if j < SLOTS {
-            words[j] = line[k + f];
-        }
-        k += 5;
-    }
-    words
-}
-
-pub fn queue_of(line: &[u16]) -> Queue {
-    if line.len() < 4 {
+pub fn queue_of(numbers: &[u16]) -> Queue {
+    let [place, count, _, slots @ ..] = numbers else {
         return Queue::empty();
+    };
+    let mut queue = Queue::empty();
+    queue.place = *place;
+    queue.count = *count;
+    for slot in slots.chunks_exact(5) {
+        let j = usize::from(slot[0]);
+        if j < SLOTS {
+            queue.kinds[j] = slot[1];
+            queue.a[j] = slot[2];
+            queue.b[j] = slot[3];
+            queue.c[j] = slot[4];
+        }
     }
-    Queue {
-        kinds: field(line, 1),
-        a: field(line, 2),
-        b: field(line, 3),
-        c: field(line, 4),
-        place: line[1],
-        count: line[2],
-    }
+    queue
 }
 
-pub fn slot_words(queue: Queue, j: usize) -> [u16; 4]
+pub fn slot_words(queue: &Queue, j: usize) -> [u16; 4]
     requires { j < slots }
 {
     [queue.kinds[j], queue.a[j], queue.b[j], queue.c[j]]
 }
 
 fn is_used(words: [u16; 4]) -> bool {
-    (words[0] | words[1] | words[2] | words[3]) != 0
+    words != [0; 4]
 }
 
-fn count_used(queue: Queue) -> u64 {
-    let mut n: u64 = 0;
-    let mut j: usize = 0;
-    while j < SLOTS {
-        if is_used(slot_words(queue, j)) {
-            n += 1;
+// A queue that is written as a line's numbers.
+#[derive(Clone, Copy)]
+pub struct Packets<'q>(pub &'q Queue);
+
+impl<'q> fmt::Display for Packets<'q> {
+    fn fmt<W: fmt::Write>(&self, f: &mut fmt::Formatter<W>) -> fmt::Result {
+        let queue = self.0;
+        let used = (0..SLOTS)
+            .filter(|j| is_used(slot_words(queue, *j)))
+            .count();
+        write!(f, "{} {} {used}", queue.place, queue.count)?;
+        for j in 0..SLOTS {
+            let words = slot_words(queue, j);
+            if is_used(words) {
+                let [kind, a, b, c] = words;
+                write!(f, " {j} {kind} {a} {b} {c}")?;
+            }
         }
-        j += 1;
+        Ok(())
     }
-    n
-}
-
-fn put_slot<W: io::Write>(writer: &mut W, j: usize, words: [u16; 4])
-    requires { j < slots }
-{
-    if is_used(words) {
-        put_number(writer, j as u64);
-        put_words(writer, &words);
-    }
-}
-
-fn put_slots<W: io::Write>(writer: &mut W, queue: Queue) {
-    let mut j: usize = 0;
-    while j < SLOTS {
-        put_slot(writer, j, slot_words(queue, j));
-        j += 1;
-    }
-}
-
-pub fn put_queue<W: io::Write>(writer: &mut W, queue: Queue) {
-    put_name(writer, b"\nQ");
-    put_word(writer, queue.place);
-    put_word(writer, queue.count);
-    put_number(writer, count_used(queue));
-    put_slots(writer, queue)
 }

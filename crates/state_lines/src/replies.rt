@@ -1,18 +1,14 @@
 // A call's answer, as the paper's reply and as text.
-ghost use Rattle.std.specs.Prelude.{◌≡◌, ◌<◌, ◌≤◌, length};
+ghost use Rattle.std.specs.Prelude.{◌≡◌, ◌<◌, ◌≤◌};
 ghost use Rattle.machine.specs.Answers.{row_reply, fresh_reply, step_reply, audit_answer_reply};
 ghost use Rattle.state_lines.specs.Replies.{paper_reply};
 
-use crate::checksum::checksum_of;
-use crate::lines::Call;
-use crate::output::{put_name, put_number, put_word};
-use crate::queue::put_queue;
-use crate::runs::{widen, write_runs};
+use crate::input::Call;
+use crate::lines::Store;
 use machine::{
-    AuditAnswer, Finding, FreshAnswer, LengthAnswer, Queue, Refusal, RowAnswer, Rule, Step,
-    StepAnswer,
+    AuditAnswer, Finding, FreshAnswer, LengthAnswer, Refusal, RowAnswer, Rule, Step, StepAnswer,
 };
-use std::io;
+use std::{fmt, io};
 
 #[derive(Clone, Copy, Drop)]
 pub enum Reply {
@@ -24,146 +20,134 @@ pub enum Reply {
     Broken(Rule),
 }
 
-pub fn row_reply(answer: RowAnswer) -> Reply
-    ensures { paper_reply result ≡ row_reply answer }
-{
-    match answer {
-        Ok(w) => Reply::Value(w),
-        Err(r) => Reply::Refused(r),
+impl From<RowAnswer> for Reply {
+    ghost from_gives = { λ a r. paper_reply r ≡ row_reply a };
+
+    fn from(answer: RowAnswer) -> Reply {
+        match answer {
+            Ok(word) => Reply::Value(word),
+            Err(refusal) => Reply::Refused(refusal),
+        }
     }
 }
 
-pub fn fresh_reply(answer: FreshAnswer) -> Reply
-    ensures { paper_reply result ≡ fresh_reply answer }
-{
-    match answer {
-        Ok(()) => Reply::Value(0),
-        Err(r) => Reply::Refused(r),
+impl From<FreshAnswer> for Reply {
+    ghost from_gives = { λ a r. paper_reply r ≡ fresh_reply a };
+
+    fn from(answer: FreshAnswer) -> Reply {
+        match answer {
+            Ok(()) => Reply::Value(0),
+            Err(refusal) => Reply::Refused(refusal),
+        }
     }
 }
 
-pub fn step_reply(answer: StepAnswer) -> Reply
-    ensures { paper_reply result ≡ step_reply answer }
-{
-    match answer {
-        Ok(Step::Idle) => Reply::Idle,
-        Ok(Step::Applied { kind, freed }) => Reply::Applied(kind, freed),
-        Err(r) => Reply::Refused(r),
+impl From<StepAnswer> for Reply {
+    ghost from_gives = { λ a r. paper_reply r ≡ step_reply a };
+
+    fn from(answer: StepAnswer) -> Reply {
+        match answer {
+            Ok(Step::Idle) => Reply::Idle,
+            Ok(Step::Applied { kind, freed }) => Reply::Applied(kind, freed),
+            Err(refusal) => Reply::Refused(refusal),
+        }
     }
 }
 
-pub fn audit_reply(answer: AuditAnswer) -> Reply
-    ensures { paper_reply result ≡ audit_answer_reply answer }
-{
-    match answer {
-        Ok(Finding::Sound) => Reply::Sound,
-        Ok(Finding::Broken(r)) => Reply::Broken(r),
-        Err(r) => Reply::Refused(r),
+impl From<AuditAnswer> for Reply {
+    ghost from_gives = { λ a r. paper_reply r ≡ audit_answer_reply a };
+
+    fn from(answer: AuditAnswer) -> Reply {
+        match answer {
+            Ok(Finding::Sound) => Reply::Sound,
+            Ok(Finding::Broken(rule)) => Reply::Broken(rule),
+            Err(refusal) => Reply::Refused(refusal),
+        }
     }
 }
 
 // Writing a text: the value is its length, in 16 bits as all values of a list.
-pub fn length_reply(answer: LengthAnswer) -> Reply {
-    match answer {
-        Ok(n) => Reply::Value((n % 65536) as u16),
-        Err(r) => Reply::Refused(r),
-    }
-}
-
-fn put_named<W: io::Write>(writer: &mut W, name: &[u8], w: u16) {
-    put_name(writer, name);
-    put_word(writer, w)
-}
-
-fn put_reply<W: io::Write>(writer: &mut W, reply: Reply) {
-    match reply {
-        Reply::Value(w) => put_named(writer, b" OK", w),
-        Reply::Refused(r) => put_named(writer, b" NO", r.number()),
-        Reply::Idle => put_name(writer, b" IDLE"),
-        Reply::Applied(kind, freed) => {
-            put_named(writer, b" TAKEN", kind);
-            put_word(writer, freed)
+impl From<LengthAnswer> for Reply {
+    fn from(answer: LengthAnswer) -> Reply {
+        match answer {
+            Ok(n) => Reply::Value((n % 65536) as u16),
+            Err(refusal) => Reply::Refused(refusal),
         }
-        Reply::Sound => put_name(writer, b" SOUND"),
-        Reply::Broken(r) => put_named(writer, b" BROKEN", r.number()),
     }
 }
 
-// The codes of reading and of writing a text.
-const READ: u16 = 10;
-
-const WRITE: u16 = 11;
-
-// Writes a call's line up to its reply. Gives how many numbers it has.
-pub fn write_operands<W: io::Write>(writer: &mut W, call: Call) -> usize
-    ensures { (2 ≤ result) × (result ≤ 4) }
-{
-    let letter = [call.letter];
-    put_name(writer, &letter);
-    put_word(writer, call.code);
-    put_word(writer, call.p);
-    if call.code == READ {
-        return 2;
+impl fmt::Display for Reply {
+    fn fmt<W: fmt::Write>(&self, f: &mut fmt::Formatter<W>) -> fmt::Result {
+        match *self {
+            Reply::Value(word) => write!(f, "OK {word}"),
+            Reply::Refused(refusal) => write!(f, "NO {}", refusal.number()),
+            Reply::Idle => write!(f, "IDLE"),
+            Reply::Applied(kind, freed) => write!(f, "TAKEN {kind} {freed}"),
+            Reply::Sound => write!(f, "SOUND"),
+            Reply::Broken(rule) => write!(f, "BROKEN {}", rule.number()),
+        }
     }
-    put_word(writer, call.q);
-    if call.code == WRITE {
-        put_word(writer, call.r);
-        return 4;
+}
+
+// What is shown of a call: its reply and the whole store after it, or the store's checksum; of one that the papers don't decide neither.
+#[derive(Clone, Copy, PartialEq, Eq)]
+pub enum Shown {
+    Whole,
+    Checksum,
+    Undecided,
+}
+
+// A letter that no call's line has.
+#[derive(Clone, Copy)]
+pub struct NotShown;
+
+impl TryFrom<u8> for Shown {
+    type Error = NotShown;
+
+    fn try_from(letter: u8) -> Result<Shown, NotShown> {
+        match letter {
+            b'C' => Ok(Shown::Whole),
+            b'B' => Ok(Shown::Checksum),
+            b'U' => Ok(Shown::Undecided),
+            _ => Err(NotShown),
+        }
     }
-    3
 }
 
-fn put_store<W: io::Write>(writer: &mut W, table: &[u16], queue: Queue, scratch: &[u16]) {
-    write_runs(writer, b"\nT", table);
-    put_queue(writer, queue);
-    write_runs(writer, b"\nS", scratch);
-    put_name(writer, b"\n")
+// The letter.
+impl fmt::Display for Shown {
+    fn fmt<W: fmt::Write>(&self, f: &mut fmt::Formatter<W>) -> fmt::Result {
+        f.write_str(match self {
+            Shown::Whole => "C",
+            Shown::Checksum => "B",
+            Shown::Undecided => "U",
+        })
+    }
 }
 
-fn put_checksum<W: io::Write>(writer: &mut W, table: &[u16], queue: Queue, scratch: &[u16]) {
-    put_name(writer, b"\nH");
-    put_number(writer, checksum_of(table, queue, scratch));
-    put_name(writer, b"\n")
-}
-
-// Writes a call's line with its reply, and of the store that it left what the letter asks; an undecided call's reply and store are not shown.
-// Gives the number of lines.
+// Writes a call's line with its reply, and what is shown of the store that it left. Gives the number of lines. Whether a write fails is not asked.
 pub fn write_call<W: io::Write>(
     writer: &mut W,
+    shown: Shown,
     call: Call,
     reply: Reply,
-    table: &[u16],
-    queue: Queue,
-    scratch: &[u16],
+    store: &Store,
 ) -> usize
     ensures { (0 < result) × (result ≤ 4) }
 {
-    write_operands(writer, call);
-    if call.letter == b'U' {
-        put_name(writer, b" UNDECIDED\n");
-        return 1;
+    match shown {
+        Shown::Whole => {
+            let _ = writeln!(writer, "{shown} {call} {reply}\n{store}");
+            4
+        }
+        Shown::Checksum => {
+            let sum = store.checksum();
+            let _ = writeln!(writer, "{shown} {call} {reply}\nH {sum}");
+            2
+        }
+        Shown::Undecided => {
+            let _ = writeln!(writer, "{shown} {call} UNDECIDED");
+            1
+        }
     }
-    put_reply(writer, reply);
-    if call.letter == b'C' {
-        put_store(writer, table, queue, scratch);
-        return 4;
-    }
-    put_checksum(writer, table, queue, scratch);
-    2
-}
-
-fn put_front<W: io::Write>(writer: &mut W, words: &[u16], n: usize)
-    requires { n ≤ length words.now }
-{
-    write_runs(writer, b"F", &words[..n]);
-    put_name(writer, b"\n")
-}
-
-// The buffer after a writing that is shown, by way of lent words.
-pub fn write_buffer<W: io::Write>(writer: &mut W, call: Call, buffer: &[u8], words: &mut [u16]) {
-    if call.letter == b'U' {
-        return;
-    }
-    let n = widen(buffer, words);
-    put_front(writer, words, n)
 }

@@ -1,2 +1,2 @@
-pub mod ReadingLaws
 mod ByteLaws
+pub mod ServiceLaws

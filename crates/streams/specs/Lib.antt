@@ -1,2 +1,3 @@
--- What reading standard input gives.
+-- What reading standard input gives, and how a program goes through it.
 pub mod Reading
+pub mod Service

@@ -2,6 +2,7 @@
 ghost use Rattle.std.specs.Prelude.{length};
 ghost use Rattle.suspects.specs.Support.{Countable, Supports, Closed, Keeps};
 
+use machine::CellCount;
 use walks::Walk;
 
 // The suspects to which fewer pointers come from suspects than their cell counts say.
@@ -11,7 +12,7 @@ fn supported(table: &[u16], suspects: &Walk) -> Walk
 {
     let mut kept = Walk::new();
     for met in suspects.list() {
-        let count = cells::cell_count(table, usize::from(met.cell));
+        let count: CellCount = cells::count(table, usize::from(met.cell));
         if met.pointers < count.0 {
             kept.start(met.cell);
         }

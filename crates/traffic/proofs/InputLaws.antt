@@ -1,47 +1,40 @@
 -- What the parser's tests tell of the workload, and why an input's first bytes are enough.
-use Rattle.std.proofs.Common.{◌≡◌, ℕ, suc, ◌+◌, ◌-◌, ◌<◌, ◌≤◌, Bool, true, false, cond, eqb, List, [], ◌∷◌, length, take, drop, sym, refl, ap, ◌∙◌, arith, length-drop, drop_of_length-le, take_all, eqb-true}
-use borrow.Author.Tests.{eqb-false}
-use Rattle.base_ten.specs.declared.Number.{Number}
-use Rattle.base_ten.specs.Bytes.{line_feed, space, before, on_first, split, lines_of, words_of}
+use Rattle.std.proofs.Common.{◌≡◌, ℕ, suc, ◌<◌, ◌≤◌, Bool, true, false, cond, eqb, List, [], ◌∷◌, Option, None, length, sym, refl, ap, ◌∙◌, arith}
+use Rattle.base_ten.specs.Bytes.{line_feed, space, before, SplitsAt, on_first, split, lines_of, words_of}
 use Rattle.base_ten.specs.Lines.{last_line, onto}
 use Rattle.base_ten.specs.Numbers.{number_of}
-use Rattle.base_ten.proofs.WordLaws.{append_none, split_at}
+use Rattle.base_ten.proofs.WordLaws.{append_none, split_all, split_at}
 use Rattle.base_ten.proofs.LineLaws.{onto_none, lines_joined}
-use Rattle.base_ten.proofs.KeepLaws.{last_part}
-use Rattle.line_text.proofs.RequestLaws.{words_one, words_more, some_word}
-use Rattle.traffic.specs.declared.Workload.{Workload}
+use Rattle.line_text.proofs.RequestLaws.{some_word}
 use Rattle.traffic.specs.Workload.{most_seed, most_count, if_all, by_words, by_lines, workload_of}
 
--- the words of a line, by the place of the next space
-module _ (s : List ℕ) (n : ℕ) (e : n ≡ before space s) where
-  pub one_word : n ≡ length s → Workload.Bad ≡ by_words (words_of s)
+-- the words of what has no space
+module _ (s : List ℕ) (h : before space s ≡ length s) where
+  pub one_word : None ≡ by_words (words_of s)
   unfolding by_words
-  one_word h = rw (words_one s n e h)
+  one_word = rw (split_all space s h)
 
-  pub two_words : (a : List ℕ) → n ≡ length s → Workload.Bad ≡ by_words (a ∷ words_of s)
+  pub two_words : (a : List ℕ) → None ≡ by_words (a ∷ words_of s)
   unfolding by_words
-  two_words a h = rw (words_one s n e h)
+  two_words a = rw (split_all space s h)
 
-  pub three_words : (a b : List ℕ) {r : Workload} → n ≡ length s → r ≡ by_words (a ∷ b ∷ s ∷ []) → r ≡ by_words (a ∷ b ∷ words_of s)
-  three_words a b h er = rw (words_one s n e h) er
+  pub three_words : (a b : List ℕ) → by_words (a ∷ b ∷ s ∷ []) ≡ by_words (a ∷ b ∷ words_of s)
+  three_words a b = rw (split_all space s h)
 
-  module _ (l : n ≤ length s) (h : n ≡ length s → ⊥) where
-    pub four_words : (a b : List ℕ) → Workload.Bad ≡ by_words (a ∷ b ∷ words_of s)
-    unfolding by_words
-    four_words a b = let w = some_word (drop (n + 1) s) in rw (words_more s n e l h, w.2)
+-- and of what has one
+module _ {s l r : List ℕ} (p : SplitsAt space s l r) where
+  pub four_words : (a b : List ℕ) → None ≡ by_words (a ∷ b ∷ words_of s)
+  unfolding by_words
+  four_words a b = let w = some_word r in rw (split_at ([] ∷ []) p, w.2)
 
-    parted : words_of s ≡ take n s ∷ words_of (take (length s - (n + 1)) (drop (n + 1) s))
-    parted = rw (last_part s (n + 1)) (words_more s n e l h)
+  pub more_words : by_words (l ∷ words_of r) ≡ by_words (words_of s)
+  more_words = rw (split_at ([] ∷ []) p)
 
-    pub more_words : {r : Workload} → r ≡ by_words (take n s ∷ words_of (take (length s - (n + 1)) (drop (n + 1) s))) → r ≡ by_words (words_of s)
-    more_words er = rw parted er
-
-    pub more_words_after : (a : List ℕ) {r : Workload} → r ≡ by_words (a ∷ take n s ∷ words_of (take (length s - (n + 1)) (drop (n + 1) s)))
-        → r ≡ by_words (a ∷ words_of s)
-    more_words_after a er = rw parted er
+  pub more_words_after : (a : List ℕ) → by_words (a ∷ l ∷ words_of r) ≡ by_words (a ∷ words_of s)
+  more_words_after a = rw (split_at ([] ∷ []) p)
 
 -- the three words as numbers
-pub all_numbers : (a b d : List ℕ) {x y z : Number} → x ≡ number_of most_seed a → y ≡ number_of most_count b → z ≡ number_of most_count d
+pub all_numbers : (a b d : List ℕ) {x y z : Option ℕ} → x ≡ number_of most_seed a → y ≡ number_of most_count b → z ≡ number_of most_count d
     → if_all x y z ≡ by_words (a ∷ b ∷ d ∷ [])
 unfolding by_words
 all_numbers a b d ex ey ez = rw (ex, ey, ez)
@@ -64,36 +57,21 @@ some_line (x ∷ xs) h = go (eqb x line_feed) (lines_of xs)
     go false [] = (x ∷ [], [], refl)
     go false (p ∷ ps) = (x ∷ p, ps, refl)
 
-line_ended : (s : List ℕ) (n : ℕ) → n ≡ before line_feed s → n < length s → lines_of s ≡ take n s ∷ lines_of (drop (suc n) s)
-line_ended s n e h = rw e (split_at line_feed [] s (omega arith))
-
-pub more_lines : (s : List ℕ) (n : ℕ) → n ≡ before line_feed s → n ≤ length s → 1 < length s - n → Workload.Bad ≡ workload_of s
+-- something follows the first line feed
+pub more_lines : {s l r : List ℕ} → SplitsAt line_feed s l r → 0 < length r → None ≡ workload_of s
 unfolding workload_of by_lines
-more_lines s n e l h =
-    let rest = some_line (drop (suc n) s) (omega (arith, length-drop (suc n) s)) in
-    rw (line_ended s n e (omega arith), rest.2)
+more_lines {r = r} p h = let w = some_line r h in rw (split_at [] p, w.2)
 
 -- all is one line without a line feed
-whole_line : (s : List ℕ) → before line_feed s ≡ length s → by_words (words_of s) ≡ workload_of s
+pub whole_line : (s : List ℕ) → before line_feed s ≡ length s → by_words (words_of s) ≡ workload_of s
 unfolding split by_words by_lines workload_of
 whole_line [] h = refl
 whole_line (x ∷ xs) h = sym (ap by_lines (line_alone (x ∷ xs) h))
 
-fed_line : (s : List ℕ) (n : ℕ) → n ≡ before line_feed s → suc n ≡ length s → by_words (words_of (take n s)) ≡ workload_of s
+pub fed_line : {s l : List ℕ} (r : List ℕ) → SplitsAt line_feed s l r → length r ≤ 0 → by_words (words_of l) ≡ workload_of s
 unfolding split by_lines workload_of
-fed_line s n e h =
-    let rest : drop (suc n) s ≡ [] = drop_of_length-le s {i = suc n} (omega arith) in
-    rw (line_ended s n e (omega arith), rest)
-
-pub one_line : (s : List ℕ) (n : ℕ) {r : Workload} → n ≡ before line_feed s → n ≤ length s → length s - n ≤ 1 → r ≡ by_words (words_of (take n s))
-    → r ≡ workload_of s
-one_line s n {r = r} e l h er = go (eqb n (length s)) refl
+fed_line [] p h = rw (split_at [] p)
+fed_line (x ∷ xs) p h = absurd (never h)
   where
-    go : (t : Bool) → eqb n (length s) ≡ t → r ≡ workload_of s
-    go true q =
-        let all : n ≡ length s = eqb-true n (length s) q in
-        er ∙ ap (λ (x : List ℕ). by_words (words_of x)) (take_all n s (omega arith)) ∙ whole_line s (sym e ∙ all)
-    go false q = er ∙ fed_line s n e (fed (eqb-false n (length s) q))
-      where
-        fed : (n ≡ length s → ⊥) → suc n ≡ length s
-        fed other = omega arith
+    never : suc (length xs) ≤ 0 → ⊥
+    never p = omega arith

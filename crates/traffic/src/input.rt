@@ -4,8 +4,7 @@ ghost use Rattle.base_ten.specs.Bytes.{words_of};
 ghost use Rattle.traffic.specs.Workload.{by_words, workload_of};
 
 use crate::Workload;
-use base_ten::Number;
-use base_ten::bytes::find;
+use base_ten::bytes::split_once;
 use base_ten::numbers::number;
 
 // The largest seed.
@@ -14,65 +13,54 @@ const MOST_SEED: u32 = u32::MAX;
 // The largest C, and the largest number of calls.
 const MOST_COUNT: u32 = u16::MAX as u32;
 
-fn run(seed: &[u8], cells: &[u8], calls: &[u8]) -> Workload
+#[tactic(auto, unfolding(crate::specs::Workload::by_words))]
+fn run(seed: &[u8], cells: &[u8], calls: &[u8]) -> Option<Workload>
     ensures { result ≡ by_words (seed.now ∷ cells.now ∷ calls.now ∷ []) }
 {
-    let first = number(seed, MOST_SEED);
-    let second = number(cells, MOST_COUNT);
-    let third = number(calls, MOST_COUNT);
-    let Number::Value(s) = first else {
-        return Workload::Bad;
-    };
-    let Number::Value(c) = second else {
-        return Workload::Bad;
-    };
-    match third {
-        Number::Value(n) => Workload::Run(s, c as u16, n as u16),
-        Number::Nothing => Workload::Bad,
-    }
+    let seed = number(seed, MOST_SEED)?;
+    let cells = number(cells, MOST_COUNT)? as u16;
+    let calls = number(calls, MOST_COUNT)? as u16;
+    Some(Workload { seed, cells, calls })
 }
 
 // After two words and their spaces.
-fn third_word(seed: &[u8], cells: &[u8], rest: &[u8]) -> Workload
+fn third_word(seed: &[u8], cells: &[u8], rest: &[u8]) -> Option<Workload>
     ensures { result ≡ by_words (seed.now ∷ cells.now ∷ words_of rest.now) }
 {
-    let end = find(rest, b' ');
-    if end == rest.len() {
-        return run(seed, cells, rest);
+    match split_once(rest, b' ') {
+        None => run(seed, cells, rest),
+        Some(_) => None,
     }
-    Workload::Bad
 }
 
 // After a word and its space.
-fn second_word(seed: &[u8], rest: &[u8]) -> Workload
+fn second_word(seed: &[u8], rest: &[u8]) -> Option<Workload>
     ensures { result ≡ by_words (seed.now ∷ words_of rest.now) }
 {
-    let end = find(rest, b' ');
-    if end == rest.len() {
-        return Workload::Bad;
+    match split_once(rest, b' ') {
+        None => None,
+        Some((cells, others)) => third_word(seed, cells, others),
     }
-    let next = end + 1;
-    third_word(seed, &rest[..end], &rest[next..])
 }
 
-fn first_word(line: &[u8]) -> Workload
+fn first_word(line: &[u8]) -> Option<Workload>
     ensures { result ≡ by_words (words_of line.now) }
 {
-    let end = find(line, b' ');
-    if end == line.len() {
-        return Workload::Bad;
+    match split_once(line, b' ') {
+        None => None,
+        Some((seed, rest)) => second_word(seed, rest),
     }
-    let next = end + 1;
-    second_word(&line[..end], &line[next..])
 }
 
 // Nothing follows the first line feed.
-pub fn workload(input: &[u8]) -> Workload
+pub fn workload(input: &[u8]) -> Option<Workload>
     ensures { result ≡ workload_of input.now }
 {
-    let end = find(input, b'\n');
-    if 1 < input.len() - end {
-        return Workload::Bad;
+    let Some((line, rest)) = split_once(input, b'\n') else {
+        return first_word(input);
+    };
+    if 0 < rest.len() {
+        return None;
     }
-    first_word(&input[..end])
+    first_word(line)
 }

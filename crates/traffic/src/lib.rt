@@ -4,9 +4,8 @@
 
 pub mod input;
 
-ghost use Rattle.std.specs.Prelude.{◌≡◌, ◌*◌, ◌/◌, ◌%◌, ◌^◌};
-ghost use Rattle.line_text.specs.declared.Request;
-ghost use Rattle.traffic.specs.Traffic.{moved, operand_drawn, number_drawn, drawn, call_drawn};
+ghost use Rattle.std.specs.Prelude.{◌≡◌, ◌*◌, ◌%◌, ◌^◌};
+ghost use Rattle.traffic.specs.Traffic.{moved, draw, operand_drawn, number_drawn, call_drawn};
 
 use line_text::Request;
 use machine::{FIRST_ATOM, RowCall};
@@ -17,9 +16,10 @@ const INCREMENT: u32 = 1013904223;
 
 // What an input asks for: a seed, C and a number of calls.
 #[derive(Clone, Copy)]
-pub enum Workload {
-    Run(u32, u16, u16),
-    Bad,
+pub struct Workload {
+    pub seed: u32,
+    pub cells: u16,
+    pub calls: u16,
 }
 
 // A call, and the state after its draws.
@@ -30,49 +30,58 @@ pub struct Drawn {
 }
 
 // The product, modulo 2^32.
+// Kept: document 01 of the project names an own wrapping product beside the supplied wrapping sum.
 pub fn wrapping_mul_u32(a: u32, b: u32) -> u32
     ensures wraps { result ≡ (a * b) % 2 ^ 32 }
 {
-    ((a as u64) * (b as u64) % 4294967296) as u32
+    (u64::from(a) * u64::from(b) % 4294967296) as u32
 }
 
 // The next state.
 pub fn next_state(state: u32) -> u32
     ensures { result ≡ moved state }
 {
-    std::num::wrapping_add_u32(wrapping_mul_u32(MULTIPLIER, state), INCREMENT)
+    wrapping_mul_u32(MULTIPLIER, state).wrapping_add(INCREMENT)
 }
 
-// A draw from the state that a move gave.
-fn upper(state: u32) -> u16
-    ensures { result ≡ state / 2 ^ 16 }
-{
-    (state / 65536) as u16
+// The generator: its state moves before each draw.
+#[derive(Clone, Copy)]
+struct Generator {
+    state: u32,
 }
 
-// The sum is made in 32 bits: C + 2 may pass 16.
-fn operand(c: u16, drawn: u16) -> u16
-    ensures { result ≡ operand_drawn c drawn }
-{
-    let word = (drawn as u32) % (c as u32 + 2);
-    if word == c as u32 + 1 {
-        return FIRST_ATOM;
+impl Generator {
+    // The upper half of the state that a move gives.
+    #[tactic(auto, unfolding(crate::specs::Traffic::draw))]
+    fn draw(&mut self) -> u16
+        ensures state { self.new.state ≡ moved self.old.state }
+        ensures value { result ≡ draw self.old.state }
+    {
+        let before = self.state;
+        let after = next_state(before);
+        self.state = after;
+        (after / 65536) as u16
     }
-    word as u16
-}
 
-fn number(drawn: u16) -> u16
-    ensures { result ≡ number_drawn drawn }
-{
-    drawn % 4
-}
+    // The sum is made in 32 bits: C + 2 may pass 16.
+    fn operand(&mut self, c: u16) -> u16
+        ensures state { self.new.state ≡ moved self.old.state }
+        ensures value { result ≡ operand_drawn c (draw self.old.state) }
+    {
+        let word = u32::from(self.draw()) % (u32::from(c) + 2);
+        if word == u32::from(c) + 1 {
+            FIRST_ATOM
+        } else {
+            word as u16
+        }
+    }
 
-fn drawn_row(call: RowCall, state: u32) -> Drawn
-    ensures { result ≡ drawn (Request.Row call) state }
-{
-    Drawn {
-        request: Request::Row(call),
-        state: state,
+    #[tactic(auto, unfolding(crate::specs::Traffic::number_drawn))]
+    fn number(&mut self) -> u16
+        ensures state { self.new.state ≡ moved self.old.state }
+        ensures value { result ≡ number_drawn (draw self.old.state) }
+    {
+        self.draw() % 4
     }
 }
 
@@ -80,35 +89,20 @@ fn drawn_row(call: RowCall, state: u32) -> Drawn
 pub fn draw_call(c: u16, state: u32) -> Drawn
     ensures { result ≡ call_drawn c state }
 {
-    let picked = next_state(state);
-    let kind = upper(picked) % 8;
-    if kind == 7 {
-        return Drawn {
-            request: Request::Step,
-            state: picked,
-        };
+    let mut from = Generator { state };
+    let kind = from.draw() % 8;
+    let request = match kind {
+        0 => Request::Row(RowCall::Car(from.operand(c))),
+        1 => Request::Row(RowCall::Cdr(from.operand(c))),
+        2 => Request::Row(RowCall::Cons(from.operand(c), from.operand(c))),
+        3 => Request::Row(RowCall::SetLeft(from.operand(c), from.operand(c))),
+        4 => Request::Row(RowCall::SetRight(from.operand(c), from.operand(c))),
+        5 => Request::Row(RowCall::Up(from.operand(c), from.number())),
+        6 => Request::Row(RowCall::Down(from.operand(c), from.number())),
+        _ => Request::Step,
+    };
+    Drawn {
+        request,
+        state: from.state,
     }
-    let first = next_state(picked);
-    let x = operand(c, upper(first));
-    if kind == 0 {
-        return drawn_row(RowCall::Car(x), first);
-    }
-    if kind == 1 {
-        return drawn_row(RowCall::Cdr(x), first);
-    }
-    let second = next_state(first);
-    let next = upper(second);
-    if kind == 2 {
-        return drawn_row(RowCall::Cons(x, operand(c, next)), second);
-    }
-    if kind == 3 {
-        return drawn_row(RowCall::SetLeft(x, operand(c, next)), second);
-    }
-    if kind == 4 {
-        return drawn_row(RowCall::SetRight(x, operand(c, next)), second);
-    }
-    if kind == 5 {
-        return drawn_row(RowCall::Up(x, number(next)), second);
-    }
-    drawn_row(RowCall::Down(x, number(next)), second)
 }

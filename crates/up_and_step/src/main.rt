@@ -4,8 +4,7 @@
 
 ghost use Rattle.std.specs.Prelude.{◌*◌, ◌≤◌};
 
-use base_ten::Number;
-use base_ten::bytes::find;
+use base_ten::bytes::split_once;
 use base_ten::numbers::number;
 use machine::{Queue, RowAnswer, Step, StepAnswer};
 use std::io;
@@ -41,12 +40,6 @@ fn step_done(answer: StepAnswer) -> u64
     }
 }
 
-fn count(up: RowAnswer, first: StepAnswer, down: RowAnswer, second: StepAnswer) -> u64
-    ensures { result ≤ 4 }
-{
-    row_done(up) + step_done(first) + row_done(down) + step_done(second)
-}
-
 fn round(table: &mut [u16], queue: Queue, scratch: &mut [u16]) -> Counted
     ensures { result.done ≤ 4 }
 {
@@ -54,14 +47,12 @@ fn round(table: &mut [u16], queue: Queue, scratch: &mut [u16]) -> Counted
     let first = store::step(table, up.queue, scratch);
     let down = store::down(table, first.queue, 1, 1);
     let second = store::step(table, down.queue, scratch);
-    let up_answer = up.answer;
-    let first_answer = first.answer;
-    let down_answer = down.answer;
-    let second_answer = second.answer;
-    let after = second.queue;
     Counted {
-        queue: after,
-        done: count(up_answer, first_answer, down_answer, second_answer),
+        queue: second.queue,
+        done: row_done(up.answer)
+            + step_done(first.answer)
+            + row_done(down.answer)
+            + step_done(second.answer),
     }
 }
 
@@ -69,17 +60,13 @@ fn round(table: &mut [u16], queue: Queue, scratch: &mut [u16]) -> Counted
 fn rounds(table: &mut [u16], queue: Queue, scratch: &mut [u16], n: u32) -> u64
     ensures { result ≤ 4 * n }
 {
-    let mut present = queue;
-    let mut done: u64 = 0;
-    let mut i: u32 = 0;
-    while i < n {
-        let counted = round(table, present, scratch);
-        let after = counted.queue;
-        present = after;
-        done += counted.done;
-        i += 1;
+    let mut counted = Counted { queue, done: 0 };
+    for i in 0..n {
+        let round = round(table, counted.queue, scratch);
+        counted.queue = round.queue;
+        counted.done += round.done;
     }
-    done
+    counted.done
 }
 
 // The same, in a store of one held cell.
@@ -93,17 +80,17 @@ fn run(table: &mut [u16], scratch: &mut [u16], n: u32) -> u64
 }
 
 // The number of rounds, with or without a line feed.
-fn asked(input: &[u8]) -> Number {
-    let end = find(input, b'\n');
-    if 1 < input.len() - end {
-        return Number::Nothing;
+fn asked(input: &[u8]) -> Option<u32> {
+    match split_once(input, b'\n') {
+        None => number(input, u32::MAX),
+        Some((line, rest)) if rest.is_empty() => number(line, u32::MAX),
+        Some(_) => None,
     }
-    number(&input[..end], u32::MAX)
 }
 
 // The table and the scratch have just the words that a store of so many cells needs.
 fn answer<W: io::Write>(writer: &mut W, input: &[u8]) {
-    let Number::Value(n) = asked(input) else {
+    let Some(n) = asked(input) else {
         let _ = writer.write_all(b"BAD\n");
         return;
     };

@@ -1,5 +1,5 @@
 -- What the questions and the measure say of writing is what the machine replies.
-use Rattle.std.specs.Prelude.{Ok, Err}
+use Rattle.std.specs.Prelude.{Ok, Err, Result}
 use mathlib.Core.Path.{◌≡◌, refl, sym, ap, ◌∙◌}
 use mathlib.Core.Bool.{Bool, true, false, not}
 use mathlib.Core.List.{List, [], ◌∷◌, ◌++◌}
@@ -20,7 +20,7 @@ use Rattle.machine.specs.Machine.{accepted}
 use Rattle.machine.specs.Answers.{refusal_number}
 use Rattle.machine.proofs.Answers.{refusal_some}
 use Rattle.machine.proofs.Kept.{machine_refused, machine_accepted}
-use Rattle.printer.specs.declared.Measured.{Measured}
+use Rattle.printer.specs.declared.Unfit.{Unfit}
 use Rattle.printer.specs.Measures.{PutText}
 use Rattle.writer.specs.Front.{front}
 use Rattle.writer.specs.Writes.{answer_of, reply_to, Puts, Writes}
@@ -86,7 +86,7 @@ puts_refused t q w old f e =
     record { told = r; buffer = rw r }
 
 -- measured, and put where it fits
-pub puts_measured : (t : List ℕ) (q : Queue) (w : ℕ) (old new : List ℕ) (m : Measured) → 0 ≡ first_no (front t q w) → PutText t w old new m
+pub puts_measured : (t : List ℕ) (q : Queue) (w : ℕ) (old new : List ℕ) (m : Result ℕ Unfit) → 0 ≡ first_no (front t q w) → PutText t w old new m
     → Puts t q w old new (answer_of m)
 puts_measured t q w old new m z p = go (first_met room 0 bytes) refl
   where
@@ -98,7 +98,7 @@ puts_measured t q w old new m z p = go (first_met room 0 bytes) refl
 
     fits : first_met room 0 bytes ≡ nothing → Puts t q w old new (answer_of m)
     fits e =
-        let is : m ≡ Measured.Bytes (length bytes) = p.exact ∙ rw e in
+        let is : m ≡ Ok (length bytes) = p.exact ∙ rw e in
         let r = text_reply t q w room z e in
         let b : new ≡ bytes ++ drop (length bytes) old = rw is at p.put in
         rw is (record { told = (bytes, r, refl); buffer = rw r b })
@@ -112,11 +112,11 @@ puts_measured t q w old new m z p = go (first_met room 0 bytes) refl
     go : (found : Met) → first_met room 0 bytes ≡ found → Puts t q w old new (answer_of m)
     go nothing e = fits e
     go too_many e =
-        let is : m ≡ Measured.TooDeep = p.exact ∙ rw e in
+        let is : m ≡ Err Unfit.TooDeep = p.exact ∙ rw e in
         let b : new ≡ old = rw is at p.put in
         refuses 11 Refusal.TooDeep refl (ap met_number e) (ap answer_of is) b
     go no_room e =
-        let is : m ≡ Measured.NoRoom = p.exact ∙ rw e in
+        let is : m ≡ Err Unfit.NoRoom = p.exact ∙ rw e in
         let b : new ≡ old = rw is at p.put in
         refuses 12 Refusal.BufferTooShort refl (ap met_number e) (ap answer_of is) b
 

@@ -1,18 +1,18 @@
 -- What writing a text gives, on every store: the machine's reply, and the buffer with it.
-use Rattle.std.specs.Prelude.{Ok, Err, ◌≡◌, List, [], ◌++◌, ℕ, length, drop}
+use Rattle.std.specs.Prelude.{Result, Ok, Err, ◌≡◌, List, [], ◌++◌, ℕ, length, drop}
 use Rattle.machine.specs.declared.Queue.{Queue}
 use Rattle.machine.specs.declared.Refusal.{Refusal}
 use Rattle.machine.specs.Answers.{LengthAnswer}
 use Rattle.machine.specs.Calls.{write, Reply, store}
 use Rattle.machine.specs.Machine.{machine}
 use Rattle.machine.specs.Answers.{TellsLength, filled_part}
-use Rattle.printer.specs.declared.Measured.{Measured}
+use Rattle.printer.specs.declared.Unfit.{Unfit}
 
 -- what was measured, as an answer
-abbrev pub answer_of : Measured → LengthAnswer
-answer_of (Measured.Bytes n) = Ok n
-answer_of Measured.TooDeep = Err Refusal.TooDeep
-answer_of Measured.NoRoom = Err Refusal.BufferTooShort
+abbrev pub answer_of : Result ℕ Unfit → LengthAnswer
+answer_of (Ok n) = Ok n
+answer_of (Err Unfit.TooDeep) = Err Refusal.TooDeep
+answer_of (Err Unfit.NoRoom) = Err Refusal.BufferTooShort
 
 -- the machine's reply to writing the word w into so much room
 abbrev pub reply_to : List ℕ → Queue → ℕ → ℕ → Reply

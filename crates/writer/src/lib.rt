@@ -10,7 +10,7 @@ ghost use Rattle.writer.specs.Front.{front};
 ghost use Rattle.writer.specs.Writes.{answer_of, Puts, Writes};
 
 use machine::{Asked, LengthAnswer, Queue, Refusal};
-use printer::Measured;
+use printer::Unfit;
 
 // Question 6: a cell is held; of any other word no hold is asked.
 fn word_held(table: &[u16], queue: &Queue, word: u16) -> bool
@@ -20,14 +20,7 @@ fn word_held(table: &[u16], queue: &Queue, word: u16) -> bool
     let Some(index) = counts::cell_index(table, word) else {
         return true;
     };
-    let s = queue::waiting_changes(
-        &queue.kinds,
-        &queue.a,
-        &queue.b,
-        queue.place,
-        queue.count,
-        word,
-    );
+    let s = queue::waiting_changes(queue, queue.count, word);
     s.held.with(cells::count(table, index)).at_least(1)
 }
 
@@ -48,13 +41,13 @@ fn asked(table: &[u16], queue: &Queue, word: u16) -> Asked
 }
 
 // What was measured, as an answer.
-fn answer_of(measured: Measured) -> LengthAnswer
+fn answer_of(measured: Result<usize, Unfit>) -> LengthAnswer
     ensures { result ≡ answer_of measured }
 {
     match measured {
-        Measured::Bytes(n) => Ok(n),
-        Measured::TooDeep => Err(Refusal::TooDeep),
-        Measured::NoRoom => Err(Refusal::BufferTooShort),
+        Ok(n) => Ok(n),
+        Err(Unfit::TooDeep) => Err(Refusal::TooDeep),
+        Err(Unfit::NoRoom) => Err(Refusal::BufferTooShort),
     }
 }
 

@@ -55,8 +55,8 @@ returns-then-not-all_reached c =
     let no = sym c.all_reached.ensures.answer ∙ c.if-not-all_reached.true in
     reached_broken i.table.now i.queue.now i.scratch.now _ past cells chain packets pointers no
 
-pub returns : goal.returns
-returns c =
+pub returns-else-not-all_reached : goal.returns-else-not-all_reached
+returns-else-not-all_reached c =
     let i = c.args in
     let cells = sym c.cells_sound.ensures ∙ c.if-not-cells_sound.false in
     let chain = sym c.chain_sound.ensures ∙ c.if-not-chain_sound.false in

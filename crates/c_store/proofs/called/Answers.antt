@@ -3,5 +3,5 @@ use Rattle.c_store.proofs.called.Goals as goal
 
 pub returns : goal.returns
 returns c =
-    let load = c.load-before.ensures in
-    saved_told c.args.queue.now c.save.new.words load c.row-done.ensures c.save.ensures c.row_told.ensures
+    let load = c.load.ensures in
+    saved_told c.args.queue.now c.save.new.words load c.row-appended.ensures c.save.ensures c.row_told.ensures

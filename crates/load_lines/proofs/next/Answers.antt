@@ -1,4 +1,4 @@
 use Rattle.load_lines.proofs.next.Goals as goal
 
-pub returns-then-load : goal.returns-then-load
-returns-then-load c = c.bad_line.ensures _ _
+pub returns-in-None : goal.returns-in-None
+returns-in-None c = c.bad_line.ensures _ _

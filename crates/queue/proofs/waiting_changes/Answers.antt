@@ -8,20 +8,20 @@ pub loop-i-init : goal.loop-i-init
 loop-i-init c =
     let h = c.new.ensures in
     let p = c.new-2.ensures in
-    record { sums = λ w. sums_none _ _ _ _ h.0 h.1 p.0 p.1; bounded = record { held = omega arith; pointers = omega arith } }
+    record { sums = sums_none _ _ _ _ h.0 h.1 p.0 p.1; bounded = record { held = omega arith; pointers = omega arith } }
 
 pub loop-i-preserved : goal.loop-i-preserved
 unfolding slot
 loop-i-preserved c =
     let l = c.loop-i in
     let added = rw c.slot_after-j.ensures.0 at c.with_changes-s.ensures in record {
-      sums = λ w. sums_more _ _ _ _ l.s _ (l.invariant.sums w) added;
+      sums = sums_more _ _ _ _ l.s _ l.invariant.sums added;
       bounded = added.few l.i l.invariant.bounded;
     }
 
-pub returns-clause-by_index : goal.returns-clause-by_index
+pub returns-clause-sums : goal.returns-clause-sums
 unfolding waiting
-returns-clause-by_index c =
+returns-clause-sums c =
     let l = c.loop-i in
     let e : l.i ≡ c.args.count = omega arith in
-    λ w. rw e at (l.invariant.sums w)
+    rw e at l.invariant.sums

@@ -1,11 +1,9 @@
-use mathlib.Core.List.{List}
-use Prim.Native.Nat.{ℕ}
-use Rattle.machine.specs.Queue.{queue_of, packets_from}
+use Rattle.machine.specs.Queue.{placed, packets_from}
 use Rattle.queue.specs.Sums.{SumsOf, Bounded}
 use Rattle.queue.proofs.waiting_changes.Given as goal
 
 abbrev pub invariant-loop-i : goal.invariant-loop-i
 invariant-loop-i l = record {
-  sums : ((c : List ℕ) → SumsOf (packets_from (queue_of l.kinds l.a l.b c l.place l.count) l.place l.i) l.x l.s);
+  sums : SumsOf (packets_from (placed l.queue l.queue.place l.count) l.queue.place l.i) l.x l.s;
   bounded : Bounded l.i l.s;
 }

@@ -12,18 +12,15 @@ pub loop-s-init : goal.loop-s-init
 loop-s-init c = c.start-s.ensures _ _ c.if-text-gt-MOST_TEXT.false none_stacked
 
 pub loop-s-smaller : goal.loop-s-smaller
-loop-s-smaller c =
-    let further = rw c.in-Within.is at c.take_token-taken.ensures in
-    omega (arith, further.1, c.loop-s-test.true)
+loop-s-smaller c = omega (arith, c.in-Some.ensures.1, c.loop-s-test.true)
 
 pub loop-s-preserved : goal.loop-s-preserved
-loop-s-preserved c = (rw c.in-Within.is at c.take_token-taken.ensures).0
+loop-s-preserved c = c.in-Some.ensures.0
 
-pub returns-in-Outside : goal.returns-in-Outside
-returns-in-Outside c =
+pub returns-in_default : goal.returns-in_default
+returns-in_default c =
     let x = c.loop-s.invariant in
-    let outside = rw c.in-Outside.is at c.take_token-taken.ensures in
-    ap (judged _) (sym outside) ∙ short_judged _ x.short
+    ap (judged _) (sym c.in_default.ensures) ∙ short_judged _ x.short
 
 pub returns : goal.returns
 returns c =

@@ -1,11 +1,10 @@
 use native.Mathlib.Omega.{arith}
 use borrow.Author.Rules.{rules}
-use Rattle.session_lines.proofs.FeedLaws.{finish_none, finish_line, no_more, more_waits}
+use Rattle.session_lines.proofs.FeedLaws.{finish_none, finish_line, all_told, more_waits}
 use Rattle.session_lines.proofs.finish.Goals as goal
 
-pub returns-then-held-eq0 : goal.returns-then-held-eq0
-returns-then-held-eq0 c =
-    no_more (finish_none c.args.session (search rules) c.capped-held.ensures c.if-held-eq0.true)
+pub returns-then-session-eq0 : goal.returns-then-session-eq0
+returns-then-session-eq0 c = all_told (finish_none c.args.session c.if-session-eq0.true)
 
 pub returns-then-out-lt-ROOM : goal.returns-then-out-lt-ROOM
 returns-then-out-lt-ROOM c = more_waits c.if-out-lt-ROOM.true
@@ -13,7 +12,5 @@ returns-then-out-lt-ROOM c = more_waits c.if-out-lt-ROOM.true
 pub returns : goal.returns
 returns c =
     let k = c.serve_lines-fed in
-    no_more
-    (finish_line c.args.session (search rules) c.capped-held.ensures c.if-held-eq0.false
-    (omega (arith, k.auto.out, c.if-out-lt-ROOM.false))
-    k.ensures)
+    all_told
+    (finish_line c.args.session (search rules) c.if-session-eq0.false (omega (arith, k.auto.out, c.if-out-lt-ROOM.false)) k.ensures)

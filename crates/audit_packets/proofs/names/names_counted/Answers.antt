@@ -15,6 +15,6 @@ returns c =
     let e = c.capacity_of.ensures in
     let counted = c.count_names.ensures in
     record {
-      answer = c.names_match.ensures ∙ matched_counted i.table.now (waiting i.queue.now) _ _ _ e counted;
+      answer = c.counts_match.ensures ∙ matched_counted i.table.now (waiting i.queue.now) _ _ _ e counted;
       past = names_past i.table.now (waiting i.queue.now) _ _ _ e counted;
     }

@@ -1,4 +1,3 @@
-use mathlib.Core.Path.{refl}
 use borrow.Author.Rules.{rules}
 use Rattle.c_layout.proofs.QueueLaws.{saved_is}
 use Rattle.c_layout.proofs.queues.save.Goals as goal
@@ -12,7 +11,7 @@ returns c =
         b = search (rules, c.well_formed);
         c = search (rules, c.well_formed.1.0.1.1);
       };
-      size = refl;
+      size = c.told-words;
       kinds = c.put_array.ensures;
       a = c.put_array-2.ensures;
       b = c.put_array-3.ensures;

@@ -6,7 +6,7 @@ use Rattle.calls.proofs.operands.tally_of.Goals as goal
 pub returns : goal.returns
 returns c =
     let s = c.waiting_changes-s.result in
-    let e = c.waiting_changes-s.ensures.by_index c.args.queue.now.c in
+    let e = c.waiting_changes-s.ensures.sums in
     let held = c.with in
     let pointers = c.with-2 in (
       record {

@@ -8,26 +8,26 @@ use Rattle.line_text.proofs.texts.put_line.Goals as goal
 
 pub put_word-spaced-requires : goal.put_word-spaced-requires
 put_word-spaced-requires c =
-    omega (arith, digits_length most_digits c.args.number)
+    omega (arith, digits_length most_digits c.args.count.now)
 
 pub put_verdict-told-requires : goal.put_verdict-told-requires
 put_verdict-told-requires c =
-    let numbered = put_within most_digits c.put_number-numbered.ensures (digits_length most_digits c.args.number) in
+    let numbered = put_within most_digits c.put-numbered.ensures (digits_length most_digits c.args.count.now) in
     let spaced = c.put_word-spaced.ensures.ends in
-    omega (arith, numbered, spaced, c.put_number-numbered.auto.out, c.put_word-spaced.auto.out, c.requires)
+    omega (arith, numbered, spaced, c.put-numbered.auto.out, c.put_word-spaced.auto.out, c.requires)
 
 pub put_word-requires : goal.put_word-requires
 put_word-requires c =
-    let numbered = put_within most_digits c.put_number-numbered.ensures (digits_length most_digits c.args.number) in
+    let numbered = put_within most_digits c.put-numbered.ensures (digits_length most_digits c.args.count.now) in
     let spaced = c.put_word-spaced.ensures.ends in
     let told = put_within verdict_room c.put_verdict-told.ensures (verdict_length c.args.verdict) in
-    let same = c.put_verdict-told.auto.out ∙ c.put_word-spaced.auto.out ∙ c.put_number-numbered.auto.out in
+    let same = c.put_verdict-told.auto.out ∙ c.put_word-spaced.auto.out ∙ c.put-numbered.auto.out in
     omega (arith, numbered, spaced, told, same, c.requires)
 
 pub returns : goal.returns
 unfolding output_line
 returns c =
-    let numbered = c.put_number-numbered.ensures in
+    let numbered = c.put-numbered.ensures in
     let spaced = put_both_lem numbered c.put_word-spaced.ensures in
     let told = put_both_lem spaced c.put_verdict-told.ensures in
     put_both_lem told c.put_word.ensures

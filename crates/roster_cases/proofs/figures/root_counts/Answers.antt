@@ -6,7 +6,7 @@ use Rattle.roster_cases.proofs.FigureLaws.{cell_there, total_none, total_more}
 use Rattle.roster_cases.proofs.figures.root_counts.Goals as goal
 
 pub loop-i-init : goal.loop-i-init
-loop-i-init c = (search rules, search rules, sym (total_none _))
+loop-i-init c = (search rules, sym (total_none _))
 
 pub root_count_at-sum-requires : goal.root_count_at-sum-requires
 root_count_at-sum-requires c = cell_there c.args.table.now c.loop-i.i (omega (arith, c.cells_of-c.ensures))
@@ -14,12 +14,11 @@ root_count_at-sum-requires c = cell_there c.args.table.now c.loop-i.i (omega (ar
 pub loop-i-preserved : goal.loop-i-preserved
 loop-i-preserved c = (
   search rules,
-  search rules,
-  omega (arith, c.root_count_at-sum.ensures.0, c.loop-i.invariant.2, total_more c.loop-i.i (λ (j : ℕ). word_at c.args.table.now j root_count)),
+  omega (arith, c.root_count_at-sum.ensures.0, c.loop-i.invariant.1, total_more c.loop-i.i (λ (j : ℕ). word_at c.args.table.now j root_count)),
 )
 
 pub returns : goal.returns
 unfolding root_counts
 returns c =
-    c.loop-i.invariant.2
-    ∙ ap (λ (k : ℕ). total k (λ (j : ℕ). word_at c.args.table.now j root_count)) (omega (arith, c.cells_of-c.ensures, c.loop-i.invariant.0))
+    c.loop-i.invariant.1
+    ∙ ap (λ (k : ℕ). total k (λ (j : ℕ). word_at c.args.table.now j root_count)) (omega (arith, c.cells_of-c.ensures))

@@ -15,5 +15,5 @@ slice_bounds-parse-end c =
 
 pub returns : goal.returns
 returns c =
-    let kept = c.keep-size.ensures in
-    c.parse-2.ensures ∙ ap request_of (kept.front c.requires) ∙ sym (request_capped _)
+    let front = rw c.requires at c.keep-size.ensures.front in
+    c.parse-2.ensures ∙ ap request_of front ∙ sym (request_capped _)

@@ -1,8 +1,8 @@
-use Rattle.std.proofs.Common.{◌≡◌, ◌-◌, ◌≤◌, length}
+use Rattle.std.proofs.Common.{◌≤◌, length}
 use Rattle.state_lines.proofs.runs.expand.Given as goal
 
-abbrev pub invariant-loop-k : goal.invariant-loop-k
-invariant-loop-k l = (4 ≤ l.k) × (l.end ≤ length l.words) × (length l.words ≡ length l.initial.words)
-
-abbrev pub decreases-loop-k : goal.decreases-loop-k
-decreases-loop-k l = length l.line - l.k
+abbrev pub invariant-loop-run : goal.invariant-loop-run
+invariant-loop-run l =
+    (goal.iterator-loop-run).can_next l.run-iterator ×
+    (goal.iterator-loop-run).is_finite l.run-iterator ×
+    (l.end ≤ length l.words)

@@ -12,8 +12,8 @@ use Rattle.suspects.proofs.support.supported.Goals.{then-met-count, else-met-cou
 pub loop-met-init : goal.loop-met-init
 loop-met-init c = supports_none _ _ _ c.new-kept.ensures
 
-pub cell_count-count-requires : goal.cell_count-count-requires
-cell_count-count-requires c =
+pub count-count-requires : goal.count-count-requires
+count-count-requires c =
     let k = c.loop-met.met-index in
     let v = c.list-met-items.ensures in
     let l : k < length c.args.suspects.now.cells = within_tally _ _ v k c.loop-met-test.true in
@@ -27,7 +27,7 @@ loop-met-preserved c =
     let v = c.list-met-items.ensures in
     let e = cell_at _ _ v _ k refl in
     let d = pointers_at _ _ v _ k refl in
-    let n = c.cell_count-count.ensures ∙ ap (λ (x : ℕ). word_at c.args.table.now x cell_count) (c.from.ensures ∙ e) in
+    let n = c.count-count.ensures ∙ ap (λ (x : ℕ). word_at c.args.table.now x cell_count) (c.from.ensures ∙ e) in
     elim c.if-met-count.branch [
       | then-met-count w ↦ supports_push _ _ _ _ c.loop-met.invariant _ (omega (arith, w.if-met-count.true)) (w.kept-is ∙ (rw e at w.start.ensures))
       | else-met-count w ↦ rw w.kept-is (supports_pass _ _ _ _ c.loop-met.invariant (omega (arith, w.if-met-count.false)))

@@ -1,12 +1,9 @@
-use Rattle.std.proofs.Common.{sym, arith, length-take-le}
+use Rattle.std.proofs.Common.{◌∙◌}
 use Rattle.traffic.proofs.InputLaws.{two_words, more_words_after}
 use Rattle.traffic.proofs.input.second_word.Goals as goal
 
-pub returns-then-end-rest : goal.returns-then-end-rest
-returns-then-end-rest c = two_words _ _ c.find-end.ensures.0 _ c.if-end-rest.true
+pub returns-in-None : goal.returns-in-None
+returns-in-None c = two_words _ c.in-None.ensures _
 
-pub slice_bounds-third_word-end : goal.slice_bounds-third_word-end
-slice_bounds-third_word-end c = sym (length-take-le _ _ (omega arith))
-
-pub returns : goal.returns
-returns c = more_words_after _ _ c.find-end.ensures.0 c.find-end.ensures.1 c.if-end-rest.false _ c.third_word.ensures
+pub returns-in-Some : goal.returns-in-Some
+returns-in-Some c = c.third_word.ensures ∙ more_words_after c.in-Some.ensures _

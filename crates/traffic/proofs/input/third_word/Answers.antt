@@ -1,8 +1,9 @@
+use Rattle.std.proofs.Common.{◌∙◌}
 use Rattle.traffic.proofs.InputLaws.{three_words, four_words}
 use Rattle.traffic.proofs.input.third_word.Goals as goal
 
-pub returns-then-end-rest : goal.returns-then-end-rest
-returns-then-end-rest c = three_words _ _ c.find-end.ensures.0 _ _ c.if-end-rest.true c.run.ensures
+pub returns-in-None : goal.returns-in-None
+returns-in-None c = c.run.ensures ∙ three_words _ c.in-None.ensures _ _
 
-pub returns : goal.returns
-returns c = four_words _ _ c.find-end.ensures.0 c.find-end.ensures.1 c.if-end-rest.false _ _
+pub returns-in-Some : goal.returns-in-Some
+returns-in-Some c = four_words c.in-Some.ensures _ _

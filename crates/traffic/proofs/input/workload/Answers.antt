@@ -1,12 +1,12 @@
-use Rattle.std.proofs.Common.{sym, arith, length-take-le}
-use Rattle.traffic.proofs.InputLaws.{more_lines, one_line}
+use Rattle.std.proofs.Common.{◌∙◌}
+use Rattle.traffic.proofs.InputLaws.{whole_line, more_lines, fed_line}
 use Rattle.traffic.proofs.input.workload.Goals as goal
 
-pub returns-then-input-end-gt1 : goal.returns-then-input-end-gt1
-returns-then-input-end-gt1 c = more_lines _ _ c.find-end.ensures.0 c.find-end.ensures.1 c.if-input-end-gt1.true
+pub returns-in_default : goal.returns-in_default
+returns-in_default c = c.first_word.ensures ∙ whole_line _ c.in_default.ensures
 
-pub slice_bounds-first_word-end : goal.slice_bounds-first_word-end
-slice_bounds-first_word-end c = sym (length-take-le _ _ (omega arith))
+pub returns-then-rest-gt0 : goal.returns-then-rest-gt0
+returns-then-rest-gt0 c = more_lines c.in-Some.ensures c.if-rest-gt0.true
 
 pub returns : goal.returns
-returns c = one_line _ _ c.find-end.ensures.0 c.find-end.ensures.1 c.if-input-end-gt1.false c.first_word.ensures
+returns c = c.first_word-2.ensures ∙ fed_line _ c.in-Some.ensures c.if-rest-gt0.false
