@@ -13,7 +13,7 @@ from dependencies import differences, listed
 ROOT = os.path.dirname(os.path.dirname(os.path.abspath(__file__)))
 HISTORY = {"docs/CHANGES.md", "docs/DESIGN-PASS.md", "docs/PORT.md"}
 # Names of the kit: nothing here can say whether they exist.
-KIT = {"io", "libc", "os", "std", "lib"}
+KIT = {"arrayvec", "io", "lib", "libc", "memchr", "os", "std"}
 
 
 def path(*parts):
