@@ -7,6 +7,7 @@ ghost use Rattle.roster_list.specs.Nodes.{atom_of};
 use machine::FIRST_ATOM;
 
 // The atom of a value; nil for a number that is no atom's value.
+// Kept: a test and a sum, and no checked sum, since the edit largest_atoms_value_taken_for_none changes this test alone.
 pub fn atom(value: u16) -> u16
     ensures { value ≤ most_value → result ≡ atom_of value }
 {

@@ -6,6 +6,7 @@ ghost use Rattle.resting.specs.Settling.{word_of, Settling};
 use machine::{Queue, RowAnswer, RowCall};
 
 // The word replied; nil where the call is refused.
+// Kept: 0 for a refused call, since `word_of` in specs/Settling of resting, by which `Settles` and `Fills` speak, says so.
 fn word_of(answer: RowAnswer) -> u16
     ensures { result ≡ word_of (row_reply answer) }
 {
@@ -16,8 +17,7 @@ pub fn settle(table: &mut [u16], queue: &mut Queue, scratch: &mut [u16], call: R
     ensures { Settling table.old queue.old scratch.old (call_of call) table.new queue.new scratch.new result }
 {
     let reply = store::row(table, *queue, call);
-    let answer = reply.answer;
     let stepped = store::step(table, reply.queue, scratch);
     *queue = stepped.queue;
-    word_of(answer)
+    word_of(reply.answer)
 }
