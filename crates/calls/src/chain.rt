@@ -9,10 +9,7 @@ fn next_cell(c: u16, i: u16) -> u16
     requires { (i < c) × (c ≤ most_cells) }
     ensures { result ≡ cond (eqb (suc i) c) 0 (suc (suc i)) }
 {
-    if i + 1 == c {
-        return 0;
-    }
-    i + 2
+    if i + 1 == c { 0 } else { i + 2 }
 }
 
 fn chain_cell(table: &mut [u16], c: u16, i: u16)
@@ -29,9 +26,7 @@ pub fn make_chain(table: &mut [u16], c: u16)
 {
     cells::set_capacity(table, c);
     cells::set_ends(table, 1, c);
-    let mut i: u16 = 0;
-    while i < c {
+    for i in 0..c {
         chain_cell(table, c, i);
-        i += 1;
     }
 }

@@ -13,9 +13,10 @@ fn end_without_first(table: &[u16], next: u16) -> u16
     ensures { result ≡ cond (eqb next 0) 0 (last_free table.now) }
 {
     if next == 0 {
-        return 0;
+        0
+    } else {
+        cells::last_free(table)
     }
-    cells::last_free(table)
 }
 
 // The first free cell leaves the chain and gets both operands.

@@ -18,13 +18,11 @@ fn chain_has(table: &[u16], n: u16) -> bool
 {
     let c = cells::capacity_of(table);
     let mut w = cells::first_free(table);
-    let mut rest = n;
-    while 0 < rest {
+    for _ in 0..n {
         if !questions::is_cell(c, w) {
             return false;
         }
         w = cells::field(table, (w as usize) - 1, cells::LEFT);
-        rest -= 1;
     }
     true
 }

@@ -65,9 +65,7 @@ fn list(
 {
     let mut word = words[end];
     let mut rest = queue;
-    let mut i = end;
-    while start < i {
-        i -= 1;
+    for i in (start..end).rev() {
         let made = pair(table, rest, words[i], word);
         word = made.word;
         rest = made.queue;

@@ -12,6 +12,3 @@ abbrev pub invariant-loop-i : goal.invariant-loop-i
 invariant-loop-i l =
     (l.start ≤ l.i) × (l.i ≤ l.end) × (l.end < most_words) × (length l.table ≡ length l.initial.table)
     × Leaves (pairs_by code_cons (store l.initial.table l.initial.rest []) (drop l.i (take l.end l.words)) (get_or l.words l.end 0)) l.word l.table l.rest
-
-abbrev pub decreases-loop-i : goal.decreases-loop-i
-decreases-loop-i l = l.i
