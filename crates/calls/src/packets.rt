@@ -42,12 +42,7 @@ pub fn packet_of(table: &[u16], call: RowCall) -> Packet
         RowCall::Car(x) => packet(Kind::Read, x, field_of(table, x, cells::LEFT), 0),
         RowCall::Cdr(x) => packet(Kind::Read, x, field_of(table, x, cells::RIGHT), 0),
         RowCall::Cons(x, y) => packet(Kind::Cons, x, y, cells::first_free(table)),
-        RowCall::SetLeft(x, y) => packet(
-            Kind::ReplaceLeft,
-            y,
-            field_of(table, x, cells::LEFT),
-            x,
-        ),
+        RowCall::SetLeft(x, y) => packet(Kind::ReplaceLeft, y, field_of(table, x, cells::LEFT), x),
         RowCall::SetRight(x, y) => packet(
             Kind::ReplaceRight,
             y,

@@ -1,4 +1,3 @@
-
 use Rattle.calls.proofs.EarlyLaws.{stored_behind}
 use Rattle.calls.proofs.CallLaws.{early_of}
 use Rattle.calls.proofs.early.early_asked.Goals as goal

@@ -3,7 +3,6 @@ use mathlib.Core.Path.{ap}
 use mathlib.Core.Path.{sym}
 use native.Mathlib.Omega.{arith}
 use borrow.Author.Tests.{not-true, not-false}
-
 use Rattle.machine.proofs.Questions.{shape_is}
 use Rattle.calls.proofs.EarlyLaws.{yes, no, legal, words_1, words_3, words_x, words_y, words_0}
 use Rattle.calls.proofs.early.words_asked.Goals as goal
