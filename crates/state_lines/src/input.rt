@@ -114,7 +114,9 @@ impl fmt::Display for Call {
 }
 
 // The bytes of the text that a call's numbers have behind its code and its length, as many as there is room for.
-pub fn text_of<'t>(numbers: &[u16], text: &'t mut [u8]) -> &'t mut [u8] {
+pub fn text_of<'t>(numbers: &[u16], text: &'t mut [u8]) -> &'t mut [u8]
+    ensures { length result.now ≤ length text.old }
+{
     let bytes = numbers.get(2..).unwrap_or(&[]);
     let n = bytes.len().min(text.len());
     for (byte, number) in text.iter_mut().zip(bytes) {
