@@ -69,36 +69,35 @@ fn apply_oldest(table: &mut [u16], oldest: Packet, scratch: &mut [u16]) -> u16
 }
 
 // One step, for any table, queue and scratch. The queue is copied once, into `rest`, and the oldest packet taken out of it there.
+// Kept: one exit, in place of `?` and early ones: each further exit copies the queue once more, and an idle step takes 700 instructions for 419.
 pub fn step(table: &mut [u16], queue: Queue, scratch: &mut [u16]) -> Stepped
     ensures { Steps table.old queue scratch.old result table.new scratch.new }
 {
-    if let Err(refusal) = questions::lent(table, &queue, scratch) {
-        return Stepped {
-            answer: Err(refusal),
-            queue,
-        };
-    }
-    if queue.count == 0 {
-        return Stepped {
-            answer: Ok(Step::Idle),
-            queue,
-        };
-    }
+    let asked = questions::lent(table, &queue, scratch);
     let mut rest = queue;
-    let j = rest.place as usize;
-    let kind = rest.kinds[j];
-    let a = rest.a[j];
-    let b = rest.b[j];
-    let c = rest.c[j];
-    rest.kinds[j] = 0;
-    rest.a[j] = 0;
-    rest.b[j] = 0;
-    rest.c[j] = 0;
-    rest.place = (rest.place + 1) % Queue::SLOTS;
-    rest.count -= 1;
-    let freed = apply_oldest(table, Packet { kind, a, b, c }, scratch);
+    let mut answer = Ok(Step::Idle);
+    match asked {
+        Err(refusal) => answer = Err(refusal),
+        Ok(()) => {
+            if 0 < rest.count {
+                let j = rest.place as usize;
+                let kind = rest.kinds[j];
+                let a = rest.a[j];
+                let b = rest.b[j];
+                let c = rest.c[j];
+                rest.kinds[j] = 0;
+                rest.a[j] = 0;
+                rest.b[j] = 0;
+                rest.c[j] = 0;
+                rest.place = (rest.place + 1) % Queue::SLOTS;
+                rest.count -= 1;
+                let freed = apply_oldest(table, Packet { kind, a, b, c }, scratch);
+                answer = Ok(Step::Applied { kind, freed });
+            }
+        }
+    }
     Stepped {
-        answer: Ok(Step::Applied { kind, freed }),
+        answer,
         queue: rest,
     }
 }

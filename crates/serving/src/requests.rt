@@ -9,6 +9,7 @@ use line_text::{Request, Verdict};
 use machine::{Queue, RowCall};
 
 // Each kind of request has a function of its own, so that only its own reply takes room and time on the stack.
+#[inline]
 fn serve_fresh(table: &mut [u16], queue: &mut Queue, cells: u16) -> Verdict
     ensures { (scratch : List ℕ) → Good table.old queue.old
         → Serves (served (store table.old queue.old scratch) (Request.Fresh cells)) result (store table.new queue.new scratch) }
@@ -18,6 +19,7 @@ fn serve_fresh(table: &mut [u16], queue: &mut Queue, cells: u16) -> Verdict
     fresh_verdict(reply.answer)
 }
 
+#[inline]
 fn serve_row(table: &mut [u16], queue: &mut Queue, call: RowCall) -> Verdict
     ensures { (scratch : List ℕ) → Good table.old queue.old
         → Serves (served (store table.old queue.old scratch) (Request.Row call)) result (store table.new queue.new scratch) }
@@ -27,6 +29,7 @@ fn serve_row(table: &mut [u16], queue: &mut Queue, call: RowCall) -> Verdict
     row_verdict(reply.answer)
 }
 
+#[inline]
 fn serve_step(table: &mut [u16], queue: &mut Queue, scratch: &mut [u16]) -> Verdict
     ensures { Good table.old queue.old
         → Serves (served (store table.old queue.old scratch.old) Request.Step) result (store table.new queue.new scratch.new) }
@@ -36,6 +39,7 @@ fn serve_step(table: &mut [u16], queue: &mut Queue, scratch: &mut [u16]) -> Verd
     step_verdict(reply.answer)
 }
 
+#[inline]
 pub fn serve(table: &mut [u16], queue: &mut Queue, scratch: &mut [u16], request: Request) -> Verdict
     ensures { Good table.old queue.old
         → Serves (served (store table.old queue.old scratch.old) request) result (store table.new queue.new scratch.new) }
@@ -48,6 +52,7 @@ pub fn serve(table: &mut [u16], queue: &mut Queue, scratch: &mut [u16], request:
 }
 
 // A line that asks for nothing leaves the store as it is.
+#[inline]
 pub fn serve_line(
     table: &mut [u16],
     queue: &mut Queue,
