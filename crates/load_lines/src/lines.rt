@@ -51,6 +51,7 @@ pub fn serve_calls(
     let mut present = load;
     let mut count = Count::new(u64::from(present.done));
     let mut written = 0;
+    // Kept: how many calls are made is part of the load that is handed on, so that a `for` would count them a second time.
     while present.done <= u32::from(workload.calls) {
         if out.len() - written < BOTH_ROOM {
             return Written {

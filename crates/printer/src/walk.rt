@@ -37,6 +37,7 @@ pub(crate) struct Walk {
     pub behind: bool,
 }
 
+// Kept: three ways on, each named; `Result<Option<(Piece, Walk)>, Unfit>` would nest two types, and hold an error that no step has.
 #[derive(Clone, Copy)]
 pub(crate) enum Step {
     Ended,

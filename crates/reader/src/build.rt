@@ -170,6 +170,7 @@ pub fn build(table: &mut [u16], queue: Queue, text: &[u8]) -> Built
     let mut opened: usize = 0;
     let mut rest = queue;
     let mut at: usize = 0;
+    // Kept: a step is as long as the token is, and no `for` has such steps.
     while at < text.len() {
         let read = token_at(text, at);
         let token = read.token;

@@ -38,6 +38,7 @@ pub fn scan(text: &[u8]) -> Result<Measure, Fault>
     }
     let mut words = [0u64; modes::WORDS];
     let mut s = Scan::start();
+    // Kept: a step is as long as the token is, and no `for` has such steps.
     while s.at < text.len() {
         let Some(next) = s.take_token(text, &mut words) else {
             return Err(Fault::Outside);

@@ -43,6 +43,7 @@ pub fn serve_lines(
     let mut taken = 0;
     let mut written = 0;
     let mut feed = next_line_feed(input, taken);
+    // Kept: a `for` over lines is no plainer, since where the loop stops is told as the bytes taken.
     while feed < input.len() {
         if out.len() - written < ROOM {
             return Fed {
