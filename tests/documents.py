@@ -544,7 +544,7 @@ def tables():
         yield from compare(document, re.findall(r"`(\w+)`", " ".join(table_after(document, heading))), crates)
     yield from compare("README.md, the files of crates/machine/specs", re.findall(r"`(\w+)`", " ".join(table_after("README.md", believed)) + helpers), specs)
     written = [f"docs/{name}" for name in folder("docs") if name.endswith(".md")] + ["evidence/README.md", "include/row_store.h"]
-    yield from compare("README.md, the documents", re.findall(r"`([\w./]+)`", " ".join(table_after("README.md", "## Documents"))), written)
+    yield from compare("README.md, the documents", re.findall(r"`([\w./-]+)`", " ".join(table_after("README.md", "## Documents"))), written)
 
 
 def dependencies():
