@@ -69,12 +69,13 @@ fn apply_oldest(table: &mut [u16], oldest: Packet, scratch: &mut [u16]) -> u16
 }
 
 // One step, for any table, queue and scratch. The queue is copied once, into `rest`, and the oldest packet taken out of it there.
+// The questions are asked of `rest`: where the queue itself is lent to them it is copied twice more.
 // Kept: one exit, in place of `?` and early ones: each further exit copies the queue once more, and an idle step takes 700 instructions for 419.
 pub fn step(table: &mut [u16], queue: Queue, scratch: &mut [u16]) -> Stepped
     ensures { Steps table.old queue scratch.old result table.new scratch.new }
 {
-    let asked = questions::lent(table, &queue, scratch);
     let mut rest = queue;
+    let asked = questions::lent(table, &rest, scratch);
     let mut answer = Ok(Step::Idle);
     match asked {
         Err(refusal) => answer = Err(refusal),
