@@ -1,6 +1,6 @@
 #!/usr/bin/env python3
 """Whether the documents are true of the repository, as far as a program can tell. `tests/documents.sh` runs it, once for each test: given the test's name it
-prints what offends, a line each, and nothing where all is well. docs/CHANGES.md, docs/DESIGN-PASS.md and docs/PORT.md are history: only their links are looked at. Standard library only."""
+prints what offends, a line each, and nothing where all is well. docs/CHANGES.md, docs/DESIGN-PASS.md, docs/LOOK-BACK.md and docs/PORT.md are history: only their links are looked at. Standard library only."""
 import os
 import re
 import subprocess
@@ -11,7 +11,7 @@ from collections import Counter, defaultdict
 from dependencies import differences, listed
 
 ROOT = os.path.dirname(os.path.dirname(os.path.abspath(__file__)))
-HISTORY = {"docs/CHANGES.md", "docs/DESIGN-PASS.md", "docs/PORT.md"}
+HISTORY = {"docs/CHANGES.md", "docs/DESIGN-PASS.md", "docs/LOOK-BACK.md", "docs/PORT.md"}
 # Names of the kit: nothing here can say whether they exist.
 KIT = {"arrayvec", "io", "lib", "libc", "memchr", "os", "std"}
 

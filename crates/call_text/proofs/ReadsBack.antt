@@ -3,7 +3,7 @@ use mathlib.Core.Path.{◌≡◌, refl, sym, ◌∙◌}
 use mathlib.Core.List.{List, [], ◌∷◌, ◌++◌}
 use Prim.Native.Nat.{ℕ, ◌≤◌}
 use native.Mathlib.Omega.{arith}
-use Rattle.std.specs.Prelude.{Some}
+use Rattle.std.specs.Prelude.{Some, None}
 use Rattle.base_ten.specs.Bytes.{ascii, space, split, words_of}
 use Rattle.base_ten.specs.Numbers.{number_of}
 use Rattle.base_ten.specs.Decimal.{most_digits, decimal}
@@ -11,7 +11,7 @@ use Rattle.base_ten.proofs.WordLaws.{split_all}
 use Rattle.base_ten.proofs.DecimalRead.{decimal_read}
 use Rattle.machine.specs.declared.RowCall.{RowCall}
 use Rattle.line_text.specs.declared.Request.{Request}
-use Rattle.line_text.specs.Requests.{most_operand, with_none, with_one, with_two, by_words}
+use Rattle.line_text.specs.Requests.{most_operand, with_none, with_one, with_two, by_words, request_of}
 use Rattle.line_text.proofs.RequestLaws.{line_short}
 use Rattle.call_text.specs.CallText.{row_text, call_text}
 use Rattle.call_text.specs.ReadsBack.{RowWords, Words, ReadsBack}
@@ -51,4 +51,6 @@ words_back (Request.Row call) h = row_back call h
 words_back Request.Step h = refl
 
 pub reads_back : ReadsBack
-reads_back request h = sym (line_short (call_text request) (omega (arith, call_length request))) ∙ words_back request h
+unfolding split with_none by_words request_of
+reads_back (Some request) h = sym (line_short (call_text request) (omega (arith, call_length request))) ∙ words_back request h
+reads_back None h = refl

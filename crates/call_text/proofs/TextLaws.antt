@@ -12,7 +12,9 @@ use Rattle.base_ten.specs.Decimal.{digits, most_digits, decimal}
 use Rattle.base_ten.proofs.PutLaws.{digits_length}
 use Rattle.machine.specs.declared.RowCall.{RowCall}
 use Rattle.line_text.specs.declared.Request.{Request}
-use Rattle.call_text.specs.CallText.{one_text, two_text, row_text, call_text, call_line, word_room, call_room, line_room}
+use Rattle.std.specs.Prelude.{Some, None}
+use Rattle.std.specs.declared.option.Option.{Option}
+use Rattle.call_text.specs.CallText.{one_text, two_text, row_text, call_text, call_line, asked_text, asked_line, word_room, call_room, line_room}
 
 one_length : (word : List ℕ) (x : ℕ) → length word ≤ word_room → length (one_text word x) ≤ call_room
 one_length word x h = omega (arith, length-append word (decimal x), digits_length most_digits x)
@@ -40,6 +42,15 @@ call_length Request.Step = omega arith
 pub line_length : (request : Request) → length (call_line request) ≤ line_room
 unfolding call_line
 line_length request = omega (arith, length-append (call_text request) (line_feed ∷ []), call_length request)
+
+pub asked_length : (asked : Option Request) → length (asked_text asked) ≤ call_room
+asked_length (Some request) = call_length request
+asked_length None = omega arith
+
+pub asked_line_is : (asked : Option Request) → asked_line asked ≡ asked_text asked ++ (line_feed ∷ [])
+unfolding call_line
+asked_line_is (Some request) = refl
+asked_line_is None = refl
 
 -- a text without the byte b
 abbrev pub Free : ℕ → List ℕ → Type 0

@@ -1,5 +1,6 @@
 -- The text of a call, written in the form in which document 01 has a session's lines, and its line.
-use Rattle.std.specs.Prelude.{List, [], ◌∷◌, ◌++◌, ℕ, ◌+◌}
+use Rattle.std.specs.Prelude.{List, [], ◌∷◌, ◌++◌, ℕ, ◌+◌, Some, None}
+use Rattle.std.specs.declared.option.Option.{Option}
 use Rattle.base_ten.specs.Bytes.{ascii, line_feed, space}
 use Rattle.base_ten.specs.Decimal.{most_digits, decimal}
 use Rattle.machine.specs.declared.RowCall.{RowCall}
@@ -30,6 +31,15 @@ call_text Request.Step = ascii "step"
 -- the line with its line feed
 unfoldable pub call_line : Request → List ℕ
 call_line request = call_text request ++ (line_feed ∷ [])
+
+-- what is no call is an empty line, which the session program does not know either
+abbrev pub asked_text : Option Request → List ℕ
+asked_text (Some request) = call_text request
+asked_text None = []
+
+abbrev pub asked_line : Option Request → List ℕ
+asked_line (Some request) = call_line request
+asked_line None = line_feed ∷ []
 
 -- the longest keyword with its space
 abbrev pub word_room : ℕ

@@ -1,9 +1,10 @@
--- The line of a call is read as that call. The proof is `reads_back` in proofs/ReadsBack.
-use Rattle.std.specs.Prelude.{◌≡◌, ◌≤◌, Some}
+-- The line of a call is read as that call, and that of none as none. The proof is `reads_back` in proofs/ReadsBack.
+use Rattle.std.specs.Prelude.{◌≡◌, ◌≤◌, Some, None}
+use Rattle.std.specs.declared.option.Option.{Option}
 use Rattle.machine.specs.declared.RowCall.{RowCall}
 use Rattle.line_text.specs.declared.Request.{Request}
 use Rattle.line_text.specs.Requests.{most_operand, request_of}
-use Rattle.call_text.specs.CallText.{call_text}
+use Rattle.call_text.specs.CallText.{asked_text}
 
 -- operands are words of 16 bits
 abbrev pub RowWords : RowCall → Type 0
@@ -20,5 +21,9 @@ Words (Request.Fresh c) = c ≤ most_operand
 Words (Request.Row call) = RowWords call
 Words Request.Step = Unit {0}
 
+abbrev pub AskedWords : Option Request → Type 0
+AskedWords (Some request) = Words request
+AskedWords None = Unit {0}
+
 abbrev pub ReadsBack : Type 0
-ReadsBack = (request : Request) → Words request → request_of (call_text request) ≡ Some request
+ReadsBack = (asked : Option Request) → AskedWords asked → request_of (asked_text asked) ≡ asked

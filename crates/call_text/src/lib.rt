@@ -4,7 +4,7 @@
 ghost use Rattle.std.specs.Prelude.{◌+◌, ◌≤◌, length};
 ghost use Rattle.base_ten.specs.Decimal.{most_digits};
 ghost use Rattle.base_ten.specs.Put.{Put};
-ghost use Rattle.call_text.specs.CallText.{two_text, row_text, call_text, call_line, call_room, line_room};
+ghost use Rattle.call_text.specs.CallText.{two_text, row_text, call_text, asked_text, asked_line, call_room, line_room};
 
 use base_ten::put::{MOST_DIGITS, put_counted, put_word};
 use line_text::Request;
@@ -52,10 +52,21 @@ fn put_call(out: &mut [u8], at: usize, request: Request) -> usize
     }
 }
 
-pub fn put_call_line(out: &mut [u8], at: usize, request: Request) -> usize
-    requires { at + line_room ≤ length out.old }
-    ensures { Put out.old at (call_line request) out.new result }
+fn put_asked(out: &mut [u8], at: usize, asked: Option<Request>) -> usize
+    requires { at + call_room ≤ length out.old }
+    ensures { Put out.old at (asked_text asked) out.new result }
 {
-    let end = put_call(out, at, request);
+    match asked {
+        Some(request) => put_call(out, at, request),
+        None => at,
+    }
+}
+
+// What is no call is an empty line.
+pub fn put_call_line(out: &mut [u8], at: usize, asked: Option<Request>) -> usize
+    requires { at + line_room ≤ length out.old }
+    ensures { Put out.old at (asked_line asked) out.new result }
+{
+    let end = put_asked(out, at, asked);
     put_word(out, end, b"\n")
 }

@@ -65,5 +65,6 @@ no_input = record { line = replicate kept_bytes 0; held = 0 }
 
 -- a whole run: where it comes to the input's end, what was given is, by the theorem on whole loads, the listing of what was taken
 pub record Runs (r w : Option (List ℕ)) (result : Result (Unit {0}) Failure) (r' w' : Option (List ℕ)) : Type 0 where
-  pub serves : Serves Gathers Ends no_input r w result r' w'
+  pub kept_last : Input
+  pub serves : Serves Gathers Ends no_input r w result kept_last r' w'
   pub listed : OnOk result (serves.given ++ serves.ending ≡ listing serves.taken)

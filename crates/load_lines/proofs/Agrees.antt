@@ -6,6 +6,7 @@ use Prim.Native.Nat.{ℕ, zero, suc, ◌+◌, ◌%◌, ◌≤◌}
 use native.Mathlib.Omega.{arith}
 use lib.Dec.{eqb}
 use borrow.Author.Tests.{eqb-false}
+use Rattle.std.specs.Prelude.{Some}
 use Rattle.base_ten.specs.Bytes.{ascii, line_feed, space, before, split, lines_of}
 use Rattle.base_ten.specs.Decimal.{most_digits, decimal}
 use Rattle.machine.specs.declared.RowCall.{RowCall}
@@ -63,7 +64,7 @@ same_replies : (n : ℕ) (s : Store) (requests : List Request) → AllWords requ
 unfolding split listed call_lines reply_lines
 same_replies n s [] h = refl
 same_replies n s (request ∷ rest) h =
-    rw (next_line request (call_lines rest), reads_back request h.0)
+    rw (next_line request (call_lines rest), reads_back (Some request) h.0)
     (rw (same_replies (suc n) _ rest h.1))
 
 -- what is drawn has 16 bits

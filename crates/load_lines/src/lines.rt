@@ -63,7 +63,7 @@ pub fn serve_calls(
         present.state = drawn.state;
         present.done += 1;
         count.next();
-        written = put_call_line(out, written, drawn.request);
+        written = put_call_line(out, written, Some(drawn.request));
         let verdict = serve(table, &mut present.queue, scratch, drawn.request);
         written = put_line(out, written, &count, verdict);
     }

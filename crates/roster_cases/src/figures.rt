@@ -74,20 +74,29 @@ fn verdict(answer: AuditAnswer) -> u16 {
     }
 }
 
-// Writes the line `A v p h w k u`. The audit is lent a scratch of the program's own.
+// Writes the line `A v p h w k u`. Gives how many numbers it has. The audit is lent a scratch of the program's own.
 pub fn write_figures<W: io::Write>(
     writer: &mut W,
     store: &Store,
     word: u16,
     audit_scratch: &mut [u16],
-) {
+) -> usize
+    ensures { result ≡ 6 }
+{
     let table = store.table();
     let queue = *store.queue();
-    let v = verdict(store::audit(table, queue, audit_scratch));
-    let p = queue.count;
-    let h = root_counts(table);
-    let w = root_count_of(table, word);
-    let k = u8::from(word != 0);
-    let u = cells_in_use(table);
-    let _ = writeln!(writer, "A {v} {p} {h} {w} {k} {u}");
+    let figures = [
+        u64::from(verdict(store::audit(table, queue, audit_scratch))),
+        u64::from(queue.count),
+        root_counts(table),
+        root_count_of(table, word),
+        u64::from(word != 0),
+        cells_in_use(table),
+    ];
+    let _ = write!(writer, "A");
+    for figure in figures {
+        let _ = write!(writer, " {figure}");
+    }
+    let _ = writeln!(writer);
+    figures.len()
 }

@@ -11,8 +11,8 @@ use Rattle.streams.specs.Service.{Serves}
 use Rattle.rules.specs.declared.Answering.{Answering}
 use Rattle.rules.specs.Threading.{state_of, Feeds, Finished}
 
-pub serves_listed : {s : Answering} {r r' w w' : Option (List ℕ)} {out : List ℕ} (result : Result (Unit {0}) Failure) → Begins (state_of s)
-    → (a : Serves Feeds (λ last y. Finished (state_of last) y false out) s r w result r' w') → OnOk result (a.given ++ a.ending ≡ listing a.taken)
+pub serves_listed : {s s' : Answering} {r r' w w' : Option (List ℕ)} {out : List ℕ} (result : Result (Unit {0}) Failure) → Begins (state_of s)
+    → (a : Serves Feeds (λ last y. Finished (state_of last) y false out) s r w result s' r' w') → OnOk result (a.given ++ a.ending ≡ listing a.taken)
 serves_listed {s = s} {out = out} (Ok u) b a =
     let t = a.threads in
     let f : Finishes (last_state (state_of s) t.parts) a.ends.written out = rw t.last a.ends.finishes in

@@ -107,7 +107,7 @@ fn run<R: io::Read, W: io::Write, E: io::Write>(
     requires buffer { 0 < length input.old }
     requires room { room ≤ length out.old }
     ensures { Runs answering.old (R.remaining reader.old) (W.contents writer.old)
-        result out.new (R.remaining reader.new) (W.contents writer.new) }
+        result out.new answering.new (R.remaining reader.new) (W.contents writer.new) }
 {
     let ended = serve(reader, writer, answering, input, out);
     tell_failure(

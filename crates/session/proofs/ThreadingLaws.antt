@@ -11,8 +11,8 @@ use Rattle.streams.specs.Service.{Serves}
 use Rattle.session.specs.declared.Serving.{Serving}
 use Rattle.session.specs.Threading.{state, Feeds, Finished}
 
-pub serves_listed : {s : Serving} {r r' w w' : Option (List ℕ)} {out : List ℕ} (result : Result (Unit {0}) Failure) → state s ≡ begin
-    → (a : Serves Feeds (λ last y. Finished (state last) y false out) s r w result r' w') → OnOk result (length a.taken + 1 < 2 ^ 64 → a.given ++ a.ending ≡ listing a.taken)
+pub serves_listed : {s s' : Serving} {r r' w w' : Option (List ℕ)} {out : List ℕ} (result : Result (Unit {0}) Failure) → state s ≡ begin
+    → (a : Serves Feeds (λ last y. Finished (state last) y false out) s r w result s' r' w') → OnOk result (length a.taken + 1 < 2 ^ 64 → a.given ++ a.ending ≡ listing a.taken)
 serves_listed {out = out} (Ok u) e a = λ short.
     let t = rw e at a.threads in
     let f : Finishes (last_state begin t.parts).session (last_state begin t.parts).table (last_state begin t.parts).scratch a.ends.written out =

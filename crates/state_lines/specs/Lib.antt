@@ -1,2 +1,5 @@
 pub mod Checksum
+pub mod Lines
 pub mod Replies
+pub mod Sizes
+pub mod Stores

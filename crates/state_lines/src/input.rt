@@ -1,5 +1,7 @@
 // A line's letter and numbers, and what they are: a call or a text.
-ghost use Rattle.std.specs.Prelude.{◌≡◌, ◌<◌, ◌≤◌, length, IfSome};
+ghost use Rattle.std.specs.Prelude.{◌≡◌, ◌<◌, ◌≤◌, ◌+◌, [], drop, length, MatchOption};
+ghost use Rattle.state_lines.specs.Sizes.{line_numbers, text_size};
+ghost use Rattle.state_lines.specs.Lines.{Behind};
 
 use crate::lines::TABLE;
 use std::fmt;
@@ -18,6 +20,12 @@ pub fn input_array() -> [u8; INPUT]
 // The longest text that a list reads, and the longest buffer that it writes into, with some room.
 pub const TEXT: usize = 20480;
 
+pub fn text_array() -> [u8; TEXT]
+    ensures { text_size ≡ length result }
+{
+    [0; TEXT]
+}
+
 // The numbers of the longest line: the length, the number of runs and a run for each word of a table.
 const MOST: usize = 2 + 2 * TABLE;
 
@@ -26,6 +34,7 @@ const MOST: usize = 2 + 2 * TABLE;
 pub struct Numbers {
     numbers: [u16; MOST],
     count: usize,
+    ghost room: { line_numbers ≡ length numbers + 1 },
     ghost within: { count ≤ length numbers },
 }
 
@@ -58,7 +67,7 @@ impl Numbers {
 
     // The letter of the input's first line, whose numbers these become, and the input behind that line; nothing at the end of the input.
     pub fn read<'i>(&mut self, input: &'i [u8]) -> Option<(u8, &'i [u8])>
-        ensures { IfSome result (λ line. length line.1.now < length input.now) }
+        ensures { MatchOption result (input.now ≡ []) (λ line. Behind input.now line.1.now) }
     {
         let (letter, rest) = input.split_first()?;
         self.count = 0;

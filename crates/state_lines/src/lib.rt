@@ -9,7 +9,7 @@ mod queue;
 mod replies;
 mod runs;
 
-pub use input::{Call, Numbers, TEXT, input_array, text_of};
-pub use lines::{SCRATCH, Store};
+pub use input::{Call, Numbers, TEXT, input_array, text_array, text_of};
+pub use lines::{SCRATCH, Store, TABLE};
 pub use replies::{NotShown, Reply, Shown, write_call};
 pub use runs::Runs;

@@ -1,16 +1,15 @@
 // A store as the lines of a list make it.
-ghost use Rattle.std.specs.Prelude.{◌≡◌, ◌<◌, ◌≤◌, [], length, take};
-ghost use Rattle.machine.specs.Calls as machine;
+ghost use Rattle.std.specs.Prelude.{◌≡◌, ◌<◌, ◌≤◌, [], length};
 ghost use Rattle.machine.specs.Calls.{store};
 ghost use Rattle.machine.specs.Queue.{empty_queue};
 ghost use Rattle.state_lines.specs.Checksum.{modulus};
+ghost use Rattle.state_lines.specs.Sizes.{table_size, scratch_size};
 
 use crate::checksum::checksum_of;
 use crate::queue::{Packets, queue_of};
 use crate::runs::{Runs, expand};
 use machine::Queue;
 use std::fmt;
-use std::marker::Model;
 
 // A little more than the longest table: lists have tables with words behind their cells, to show that no call touches them.
 pub const TABLE: usize = cells::MOST_WORDS + 17;
@@ -19,28 +18,25 @@ pub const TABLE: usize = cells::MOST_WORDS + 17;
 pub const SCRATCH: usize = cells::MOST_SCRATCH + 4;
 
 // The queue, and two arrays of which so many words at the front are the table and the scratch.
-#[derive(Drop)]
+#[derive(Clone, Copy, Drop)]
 pub struct Store {
     table: [u16; TABLE],
     table_words: usize,
     scratch: [u16; SCRATCH],
     scratch_words: usize,
     queue: Queue,
-}
-
-// Clauses see the machine's store.
-impl Model for Store {
-    ghost Value = { machine.Store };
-
-    ghost view = { λ s. store (take s.table_words s.table) s.queue (take s.scratch_words s.scratch) };
-
-    ghost invariant = { λ s. (s.table_words ≤ length s.table) × (s.scratch_words ≤ length s.scratch) };
+    ghost table_size: { table_size ≡ length table },
+    ghost scratch_size: { scratch_size ≡ length scratch },
+    ghost table_within: { table_words ≤ length table },
+    ghost scratch_within: { scratch_words ≤ length scratch },
 }
 
 impl Store {
+    ghost use Rattle.state_lines.specs.Stores.{stored};
+
     // No words, and no packets.
     pub fn new() -> Store
-        ensures { result ≡ store [] empty_queue [] }
+        ensures { stored result ≡ store [] empty_queue [] }
     {
         Store {
             table: [0; TABLE],
@@ -52,13 +48,13 @@ impl Store {
     }
 
     pub fn table(&self) -> &[u16]
-        ensures { result.now ≡ self.now.table }
+        ensures { result.now ≡ (stored self.now).table }
     {
         &self.table[..self.table_words]
     }
 
     pub fn scratch(&self) -> &[u16]
-        ensures { result.now ≡ self.now.scratch }
+        ensures { result.now ≡ (stored self.now).scratch }
     {
         &self.scratch[..self.scratch_words]
     }
@@ -78,6 +74,8 @@ impl Store {
     // Makes a call on the table, the queue and the scratch; the queue that it gives back is the store's from then on. Gives what else the call gives.
     pub fn call<R, F: FnOnce(&mut [u16], Queue, &mut [u16]) -> (R, Queue)>(&mut self, call: F) -> R
         requires { F.IsAlwaysCallable call }
+        ensures table { self.new.table_words ≡ self.old.table_words }
+        ensures scratch { self.new.scratch_words ≡ self.old.scratch_words }
     {
         let Store {
             table,

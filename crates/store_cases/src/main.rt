@@ -113,7 +113,9 @@ fn bytes_of<'t>(call: Call, numbers: &[u16], text: &'t mut [u8]) -> &'t mut [u8]
     }
     let room = usize::from(call.q).min(text.len());
     let buffer = &mut text[..room];
-    buffer.fill((call.r % 256) as u8);
+    if call.code == Call::WRITE {
+        buffer.fill((call.r % 256) as u8);
+    }
     buffer
 }
 
@@ -140,7 +142,7 @@ fn take_call<W: io::Write>(
 fn run<W: io::Write>(writer: &mut W, input: &[u8]) {
     let mut numbers = Numbers::new();
     let mut store = Store::new();
-    let mut text = [0; state_lines::TEXT];
+    let mut text = state_lines::text_array();
     let mut rest = input;
     while let Some((letter, next)) = numbers.read(rest) {
         match Shown::try_from(letter) {

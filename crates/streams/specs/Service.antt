@@ -1,6 +1,6 @@
 -- How a program goes through its input, whatever it does with it. Threads s x y s' and Sends s y more out s' are the relations that the program gives
 -- (src/service): calls that take the bytes x and give the bytes y lead from the state s to s'.
-use Rattle.std.specs.Prelude.{◌≡◌, Bool, false, List, [], ◌++◌, ℕ, ◌+◌, ◌^◌, ◌≤◌, length, take, Ok, Err, OnOk}
+use Rattle.std.specs.Prelude.{◌≡◌, Bool, false, List, [], ◌++◌, ℕ, ◌+◌, ◌^◌, ◌≤◌, length, take, Ok, Err, OnOk, IfErr}
 use Rattle.std.specs.declared.option.Option.{Option}
 use Rattle.std.specs.declared.result.Result.{Result}
 use Rattle.std.specs.Io.KnownBytes.{Consumes, IsAtEnd}
@@ -43,9 +43,10 @@ module _ {S : Type 0} (Sends : S → List ℕ → Bool → List ℕ → S → Ty
     pub over : OnOk result (more ≡ false)
     pub adds : Adds w w' given result
 
--- an input is taken, and at its end, and only there, what is left is given, as Ends has it of the last state; what was given is written
+-- an input is taken, and at its end, and only there, what is left is given, as Ends has it of the last state; where it was not taken to its end nothing is
+-- done after that: nothing more is given, and the state is the last; what was given is written
 pub record Serves {S : Type 0} (Threads : S → List ℕ → List ℕ → S → Type 0) (Ends : S → List ℕ → Type 0) (s : S) (r w : Option (List ℕ))
-    (result : Result (Unit {0}) Failure) (r' w' : Option (List ℕ)) : Type 0 where
+    (result : Result (Unit {0}) Failure) (s' : S) (r' w' : Option (List ℕ)) : Type 0 where
   pub taken : List ℕ
   pub given : List ℕ
   pub rest : List ℕ
@@ -55,4 +56,7 @@ pub record Serves {S : Type 0} (Threads : S → List ℕ → List ℕ → S → 
   pub left : Left result taken rest r'
   pub ending : List ℕ
   pub ends : OnOk result (Ends last ending)
+  pub took : Result (Unit {0}) Failure
+  pub at_end : OnOk took ((rest ≡ []) × IsAtEnd r')
+  pub unended : IfErr took (λ e. (result ≡ Err e) × (ending ≡ []) × (s' ≡ last))
   pub adds : Adds w w' (given ++ ending) result

@@ -141,7 +141,7 @@ pub fn serve<R: io::Read, W: io::Write, S: Feed + Source>(
     requires send_room { S.send_room ≤ length out.old }
     requires ready { (s : _) → S.ready s }
     ensures { Serves S.feeds (λ last y. S.sends last y false out.new service.new) service.old (R.remaining reader.old) (W.contents writer.old)
-        result (R.remaining reader.new) (W.contents writer.new) }
+        result service.new (R.remaining reader.new) (W.contents writer.new) }
 {
     take_input(reader, writer, service, input, out)?;
     send(writer, service, out)

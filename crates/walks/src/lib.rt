@@ -87,7 +87,8 @@ impl Walk {
         self.put(Met { cell, pointers: 0 });
     }
 
-    fn place(&self, cell: u16) -> Option<usize>
+    // Where the cell stands in the list.
+    pub fn place(&self, cell: u16) -> Option<usize>
         ensures { Places self.now.cells cell result }
     {
         if self.seen[usize::from(cell) % MOST] {

@@ -9,14 +9,14 @@ use Rattle.load.proofs.answer.Goals as goal
 pub returns-in_err-take_input : goal.returns-in_err-take_input
 returns-in_err-take_input g c =
     let p = err_from_is_err_and c.from_residual.result c.from_residual.ensures.1 in
-    rw (p.1, p.2) (record { serves = not_taken Ends c.in_err-take_input.ensures; listed = tt })
+    rw (p.1, p.2) (record { kept_last = _; serves = not_taken Ends c.in_err-take_input.ensures; listed = tt })
 
 pub returns : goal.returns
 returns g c =
-    let serves = taken_sent Ends c.in_ok-take_input.ensures c.send.ensures.failure c.send.ensures.sends (λ y sends. record {
+    let serves = taken_sent Ends {s'' = c.take_input.new.service} c.in_ok-take_input.ensures c.send.ensures.failure c.send.ensures.sends (λ y sends. record {
       first = c.start-sending.result;
       last = c.send.new.source;
       begins = c.start-sending.ensures ∙ ap begin c.workload.ensures;
       sends = sends;
     }) in
-    record { serves = serves; listed = serves_listed c.send.result serves }
+    record { kept_last = c.take_input.new.service; serves = serves; listed = serves_listed c.send.result serves }
