@@ -11,9 +11,9 @@ use Rattle.load_lines.specs.Progress.{is_more}
 use Rattle.load_lines.specs.Whole.{nothing, kept_input, begin, Wrote, last_kept, last_state}
 use Rattle.load_lines.proofs.Theorem.{whole}
 use Rattle.load.specs.declared.Input.{Input}
-use Rattle.load.specs.Threading.{Gathers, Ends, no_input}
+use Rattle.load.specs.Threading.{Gathers, Ends, Tries, no_input}
 
-pub serves_listed : {k : Input} {r r' w w' : Option (List ℕ)} (result : Result (Unit {0}) Failure) (a : Serves Gathers Ends no_input r w result k r' w')
+pub serves_listed : {k : Input} {r r' w w' : Option (List ℕ)} (result : Result (Unit {0}) Failure) (a : Serves Gathers Ends Tries no_input r w result k r' w')
     → OnOk result (a.given ++ a.ending ≡ listing a.taken)
 serves_listed (Ok u) a =
     let t = a.threads.threads in

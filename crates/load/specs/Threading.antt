@@ -59,6 +59,14 @@ pub record Ends (k : Input) (y : List ℕ) : Type 0 where
   pub begins : state first ≡ begin (workload_of (kept_input (kept_of k)))
   pub sends : Sends first y false last
 
+-- the calls of `next` began with that, as far as they came
+pub record Tries (k : Input) (y : List ℕ) : Type 0 where
+  pub first : Sending
+  pub last : Sending
+  pub more : Bool
+  pub begins : state first ≡ begin (workload_of (kept_input (kept_of k)))
+  pub sends : Sends first y more last
+
 -- nothing is kept yet
 abbrev pub no_input : Input
 no_input = record { line = replicate kept_bytes 0; held = 0 }
@@ -66,5 +74,5 @@ no_input = record { line = replicate kept_bytes 0; held = 0 }
 -- a whole run: where it comes to the input's end, what was given is, by the theorem on whole loads, the listing of what was taken
 pub record Runs (r w : Option (List ℕ)) (result : Result (Unit {0}) Failure) (r' w' : Option (List ℕ)) : Type 0 where
   pub kept_last : Input
-  pub serves : Serves Gathers Ends no_input r w result kept_last r' w'
+  pub serves : Serves Gathers Ends Tries no_input r w result kept_last r' w'
   pub listed : OnOk result (serves.given ++ serves.ending ≡ listing serves.taken)

@@ -1,5 +1,5 @@
 -- The theorem on whole sessions at what a run hands on.
-use Rattle.std.proofs.Common.{◌≡◌, ℕ, ◌+◌, ◌^◌, ◌<◌, List, false, ◌++◌, length, Ok, Err, OnOk}
+use Rattle.std.proofs.Common.{◌≡◌, Bool, ℕ, ◌+◌, ◌^◌, ◌<◌, List, false, ◌++◌, length, Ok, Err, OnOk}
 use Rattle.std.specs.declared.option.Option.{Option}
 use Rattle.std.specs.declared.result.Result.{Result}
 use Rattle.session_lines.specs.Listing.{listing}
@@ -12,7 +12,7 @@ use Rattle.session.specs.declared.Serving.{Serving}
 use Rattle.session.specs.Threading.{state, Feeds, Finished}
 
 pub serves_listed : {s s' : Serving} {r r' w w' : Option (List ℕ)} {out : List ℕ} (result : Result (Unit {0}) Failure) → state s ≡ begin
-    → (a : Serves Feeds (λ last y. Finished (state last) y false out) s r w result s' r' w') → OnOk result (length a.taken + 1 < 2 ^ 64 → a.given ++ a.ending ≡ listing a.taken)
+    → (a : Serves Feeds (λ last y. Finished (state last) y false out) (λ last y. (more : Bool) × Finished (state last) y more out) s r w result s' r' w') → OnOk result (length a.taken + 1 < 2 ^ 64 → a.given ++ a.ending ≡ listing a.taken)
 serves_listed {out = out} (Ok u) e a = λ short.
     let t = rw e at a.threads in
     let f : Finishes (last_state begin t.parts).session (last_state begin t.parts).table (last_state begin t.parts).scratch a.ends.written out =

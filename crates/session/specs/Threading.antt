@@ -34,5 +34,5 @@ finished_once f = absurd (true≢false f.over)
 
 -- a whole run: where it comes to the input's end, what was given is, by the theorem on whole sessions, the listing of what was taken
 pub record Runs (s : Serving) (r w : Option (List ℕ)) (result : Result (Unit {0}) Failure) (out : List ℕ) (s' : Serving) (r' w' : Option (List ℕ)) : Type 0 where
-  pub serves : Serves Feeds (λ last y. Finished (state last) y false out) s r w result s' r' w'
+  pub serves : Serves Feeds (λ last y. Finished (state last) y false out) (λ last y. (more : Bool) × Finished (state last) y more out) s r w result s' r' w'
   pub listed : OnOk result (length serves.taken + 1 < 2 ^ 64 → serves.given ++ serves.ending ≡ listing serves.taken)

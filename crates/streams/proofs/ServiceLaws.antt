@@ -127,9 +127,9 @@ sent_over : (P : Bool → Type 0) {Q : Type 0} {more : Bool} (result : Result (U
 sent_over P (Ok v) ends over a = ends (rw over at a)
 sent_over P (Err e) ends over a = tt
 
-module _ {S : Type 0} {Threads : S → List ℕ → List ℕ → S → Type 0} (Ends : S → List ℕ → Type 0) {s s' : S} {r r' w w' : Option (List ℕ)} where
+module _ {S : Type 0} {Threads : S → List ℕ → List ℕ → S → Type 0} (Ends Tries : S → List ℕ → Type 0) {s s' : S} {r r' w w' : Option (List ℕ)} where
   -- the input was not taken to its end
-  pub not_taken : {e : Failure} → TakesInput Threads s r w (Err e) s' r' w' → Serves Threads Ends s r w (Err e) s' r' w'
+  pub not_taken : {e : Failure} → TakesInput Threads s r w (Err e) s' r' w' → Serves Threads Ends Tries s r w (Err e) s' r' w'
   not_taken {e} a = record {
     taken = a.taken;
     given = a.given;
@@ -141,6 +141,7 @@ module _ {S : Type 0} {Threads : S → List ℕ → List ℕ → S → Type 0} (
     ending = [];
     ends = tt;
     took = Err e;
+    tried = tt;
     at_end = tt;
     unended = (refl, refl, refl);
     adds = rw append-nil a.adds;
@@ -149,8 +150,9 @@ module _ {S : Type 0} {Threads : S → List ℕ → List ℕ → S → Type 0} (
   -- the input was taken to its end, and what is left was sent
   pub taken_sent : {T : Type 0} {Sends : T → List ℕ → Bool → List ℕ → T → Type 0} {t t' : T} {s'' : S} {w'' : Option (List ℕ)} {u : Unit {0}}
       {result : Result (Unit {0}) Failure} {out : List ℕ} → TakesInput Threads s r w (Ok u) s' r' w' → IfErr result (λ e. e ≡ Failure.Writing)
-      → Sending Sends t w' result out t' w'' → ((y : List ℕ) → Sends t y false out t' → Ends s' y) → Serves Threads Ends s r w result s'' r' w''
-  taken_sent {Sends = Sends} {t = t} {t' = t'} {w'' = w''} {u = u} {result = result} {out = out} a f b ends = record {
+      → Sending Sends t w' result out t' w'' → ((y : List ℕ) → Sends t y false out t' → Ends s' y)
+      → ((y : List ℕ) (m : Bool) → Sends t y m out t' → Tries s' y) → Serves Threads Ends Tries s r w result s'' r' w''
+  taken_sent {Sends = Sends} {t = t} {t' = t'} {w'' = w''} {u = u} {result = result} {out = out} a f b ends tries = record {
     taken = a.taken;
     given = a.given;
     rest = a.rest;
@@ -161,6 +163,7 @@ module _ {S : Type 0} {Threads : S → List ℕ → List ℕ → S → Type 0} (
     ending = b.given;
     ends = sent_over (λ m. Sends t b.given m out t') result (ends b.given) b.over b.sends;
     took = Ok u;
+    tried = tries b.given b.more b.sends;
     at_end = a.left;
     unended = tt;
     adds = adds_both w w' w'' a.given b.given result a.adds b.adds;

@@ -43,9 +43,9 @@ module _ {S : Type 0} (Sends : S → List ℕ → Bool → List ℕ → S → Ty
     pub over : OnOk result (more ≡ false)
     pub adds : Adds w w' given result
 
--- an input is taken, and at its end, and only there, what is left is given, as Ends has it of the last state; where it was not taken to its end nothing is
--- done after that: nothing more is given, and the state is the last; what was given is written
-pub record Serves {S : Type 0} (Threads : S → List ℕ → List ℕ → S → Type 0) (Ends : S → List ℕ → Type 0) (s : S) (r w : Option (List ℕ))
+-- an input is taken, and at its end, and only there, what is left is given, as Ends has it of the last state, or where a write failed as far as it came, as
+-- Tries has it; where it was not taken to its end nothing is done after that: nothing more is given, and the state is the last; what was given is written
+pub record Serves {S : Type 0} (Threads : S → List ℕ → List ℕ → S → Type 0) (Ends Tries : S → List ℕ → Type 0) (s : S) (r w : Option (List ℕ))
     (result : Result (Unit {0}) Failure) (s' : S) (r' w' : Option (List ℕ)) : Type 0 where
   pub taken : List ℕ
   pub given : List ℕ
@@ -57,6 +57,7 @@ pub record Serves {S : Type 0} (Threads : S → List ℕ → List ℕ → S → 
   pub ending : List ℕ
   pub ends : OnOk result (Ends last ending)
   pub took : Result (Unit {0}) Failure
+  pub tried : OnOk took (Tries last ending)
   pub at_end : OnOk took ((rest ≡ []) × IsAtEnd r')
   pub unended : IfErr took (λ e. (result ≡ Err e) × (ending ≡ []) × (s' ≡ last))
   pub adds : Adds w w' (given ++ ending) result

@@ -140,8 +140,8 @@ pub fn serve<R: io::Read, W: io::Write, S: Feed + Source>(
     requires feed_room { S.feed_room ≤ length out.old }
     requires send_room { S.send_room ≤ length out.old }
     requires ready { (s : _) → S.ready s }
-    ensures { Serves S.feeds (λ last y. S.sends last y false out.new service.new) service.old (R.remaining reader.old) (W.contents writer.old)
-        result service.new (R.remaining reader.new) (W.contents writer.new) }
+    ensures { Serves S.feeds (λ last y. S.sends last y false out.new service.new) (λ last y. (more : Bool) × S.sends last y more out.new service.new)
+        service.old (R.remaining reader.old) (W.contents writer.old) result service.new (R.remaining reader.new) (W.contents writer.new) }
 {
     take_input(reader, writer, service, input, out)?;
     send(writer, service, out)
