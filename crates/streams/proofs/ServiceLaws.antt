@@ -1,5 +1,5 @@
 -- How far the shell's loops have come.
-use Rattle.std.proofs.Common.{◌≡◌, refl, Bool, true, false, ℕ, ◌+◌, ◌-◌, ◌^◌, ◌≤◌, ◌<◌, List, [], ◌++◌, append_assoc, append-nil, length, length-append, length-drop, take, drop, take-append-drop, arith, ap, ◌∙◌, Ok, Err, IfErr, OnOk}
+use Rattle.std.proofs.Common.{◌≡◌, refl, Bool, true, false, ℕ, ◌+◌, ◌-◌, ◌^◌, ◌≤◌, ◌<◌, List, [], ◌++◌, append_assoc, append-nil, length, length-append, length-drop, length-take-le, take, drop, take-append-drop, arith, ap, ◌∙◌, None, Some, Ok, Err, IfErr, OnOk}
 use Rattle.std.proofs.lemmas.List.{take_rest}
 use Rattle.std.proofs.Math.Seq.{take-add, take-append-add, take-length}
 use Rattle.std.specs.declared.option.Option.{Option}
@@ -7,8 +7,8 @@ use Rattle.std.specs.declared.result.Result.{Result}
 use Rattle.std.specs.Io.KnownBytes.{Appends, Consumes}
 use Rattle.std.proofs.KnownBytes.{Appends-trans, Consumes-nil, Consumes-trans}
 use Rattle.streams.specs.declared.Failure.{Failure}
-use Rattle.streams.specs.Reading.{Adds}
-use Rattle.streams.specs.Service.{Relays, Left, TakesInput, Sending, Serves}
+use Rattle.streams.specs.Reading.{Within, Takes, Adds}
+use Rattle.streams.specs.Service.{Relays, Follows, Left, TakesInput, Sending, Serves}
 
 -- one more write
 pub adds_both : (a b c : Option (List ℕ)) (x y : List ℕ) (r : Result (Unit {0}) Failure) → Appends a b x → Adds b c y r → Adds a c (x ++ y) r
@@ -98,6 +98,36 @@ module _ {S : Type 0} {Threads : S → List ℕ → List ℕ → S → Type 0} {
     left = (refl, omega (arith, a.counted));
     adds = adds_all w w' a.given (Err Failure.TooLong) a.appends;
   }
+
+module _ {S : Type 0} {Threads : S → List ℕ → List ℕ → S → Type 0}
+    (both : (s s' s'' : S) (x y x' y' : List ℕ) → Threads s x y s' → Threads s' x' y' s'' → Threads s (x ++ x') (y ++ y') s'')
+    {s s' s'' : S} {r r' r'' w w' w'' : Option (List ℕ)} {reads : ℕ} (a : Taking Threads s r w s' r' w' reads) (buffer : List ℕ) where
+  -- one more read, and what followed
+  pub followed_failed : (read : Result (Option ℕ) Failure) (e : Failure) → IfErr read (λ x. x ≡ Failure.Reading) → Takes r' r'' read buffer
+      → Follows Threads read s' buffer w' (Err e) s'' w'' → TakesInput Threads s r w (Err e) s'' r'' w''
+  followed_failed (Ok (Some n)) e p t f = rw f.0 (taking_failed both a (take n buffer) t (rw f.0 at f.1))
+  followed_failed (Ok None) e p t f = absurd f
+  followed_failed (Err x) e p t f = rw (f.1, f.2, f.0, p) (taking_unread a t)
+
+  pub followed_more : (read : Result (Option ℕ) Failure) → Within (length buffer) read → Takes r' r'' read buffer
+      → Follows Threads read s' buffer w' (Ok true) s'' w'' → Taking Threads s r w s'' r'' w'' (reads + 1)
+  followed_more (Ok (Some n)) i t f = taking_more both a (take n buffer) t (omega (arith, length-take-le n buffer i.1, i.0)) f
+  followed_more (Ok None) i t f = absurd f
+  followed_more (Err x) i t f = absurd f
+
+  pub followed_end : {u : Unit {0}} (read : Result (Option ℕ) Failure) → 0 < length buffer → Takes r' r'' read buffer
+      → Follows Threads read s' buffer w' (Ok false) s'' w'' → TakesInput Threads s r w (Ok u) s'' r'' w''
+  followed_end (Ok (Some n)) l t f = absurd f
+  followed_end (Ok None) l t f = rw (f.0, f.1) (record {
+    taken = a.taken;
+    given = a.given;
+    rest = [];
+    threads = a.threads;
+    consumes = Consumes-trans r r' r'' a.taken [] a.consumes t.0;
+    left = (refl, t.1 l);
+    adds = a.appends;
+  })
+  followed_end (Err x) l t f = absurd f
 
 module _ {S : Type 0} (Sends : S → List ℕ → Bool → List ℕ → S → Type 0) where
   -- how far the calls of `next` have come: what follows from here follows from the beginning

@@ -1,6 +1,6 @@
 -- How a program goes through its input, whatever it does with it. Threads s x y s' and Sends s y more out s' are the relations that the program gives
 -- (src/service): calls that take the bytes x and give the bytes y lead from the state s to s'.
-use Rattle.std.specs.Prelude.{◌≡◌, Bool, false, List, [], ◌++◌, ℕ, ◌+◌, ◌^◌, ◌≤◌, length, take, Ok, Err, OnOk, IfErr}
+use Rattle.std.specs.Prelude.{◌≡◌, Bool, true, false, List, [], ◌++◌, ℕ, ◌+◌, ◌^◌, ◌≤◌, length, take, None, Some, Ok, Err, OnOk, IfErr}
 use Rattle.std.specs.declared.option.Option.{Option}
 use Rattle.std.specs.declared.result.Result.{Result}
 use Rattle.std.specs.Io.KnownBytes.{Consumes, IsAtEnd}
@@ -23,6 +23,17 @@ module _ {S : Type 0} (Threads : S → List ℕ → List ℕ → S → Type 0) w
     pub all : OnOk result (taken ≡ length input)
     pub threads : Threads s (take taken input) given s'
     pub adds : Adds w w' given result
+
+  -- after a read into the buffer its bytes are relayed, and there may be more; at the end of the input and after a failure nothing is fed or written
+  abbrev pub Follows : Result (Option ℕ) Failure → S → List ℕ → Option (List ℕ) → Result Bool Failure → S → Option (List ℕ) → Type 0
+  Follows (Ok (Some n)) s buffer w (Ok true) s' w' = Relays s (take n buffer) w (Ok tt) s' w'
+  Follows (Ok (Some n)) s buffer w (Ok false) s' w' = ⊥
+  Follows (Ok (Some n)) s buffer w (Err e) s' w' = (e ≡ Failure.Writing) × Relays s (take n buffer) w (Err e) s' w'
+  Follows (Ok None) s buffer w (Ok true) s' w' = ⊥
+  Follows (Ok None) s buffer w (Ok false) s' w' = (s' ≡ s) × (w' ≡ w)
+  Follows (Ok None) s buffer w (Err e) s' w' = ⊥
+  Follows (Err e) s buffer w (Ok more) s' w' = ⊥
+  Follows (Err e) s buffer w (Err x) s' w' = (x ≡ e) × (s' ≡ s) × (w' ≡ w)
 
   -- an input is read and taken, byte after byte, and what was given for it is written
   pub record TakesInput (s : S) (r w : Option (List ℕ)) (result : Result (Unit {0}) Failure) (s' : S) (r' w' : Option (List ℕ)) : Type 0 where

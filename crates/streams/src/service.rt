@@ -1,7 +1,8 @@
 // The shell of a program that answers its input, whatever it does with it: all of the input is taken, part by part, and what is given is written (specs/Service).
 
 ghost use Rattle.std.specs.Prelude.{◌≡◌, Bool, true, false, ℕ, ◌≤◌, ◌<◌, List, [], ◌++◌, length, take, IsTrue, IfErr};
-ghost use Rattle.streams.specs.Service.{Relays, TakesInput, Sending, Serves};
+ghost use Rattle.streams.specs.Reading.{Within};
+ghost use Rattle.streams.specs.Service.{Relays, Follows, TakesInput, Sending, Serves};
 
 use crate::{Failure, read_front, write_all};
 use std::io;
@@ -86,6 +87,28 @@ fn relay<W: io::Write, S: Feed>(
     Ok(())
 }
 
+// What a read put into the buffer's front is relayed. Tells whether there may be more.
+fn follow<W: io::Write, S: Feed>(
+    writer: &mut W,
+    service: &mut S,
+    read: Result<Option<usize>, Failure>,
+    input: &[u8],
+    out: &mut [u8],
+) -> Result<bool, Failure>
+    requires within { Within (length input.now) read }
+    requires room { S.feed_room ≤ length out.old }
+    ensures { Follows S.feeds read service.old input.now (W.contents writer.old) result service.new (W.contents writer.new) }
+{
+    match read {
+        Ok(Some(n)) => {
+            relay(writer, service, &input[..n], out)?;
+            Ok(true)
+        }
+        Ok(None) => Ok(false),
+        Err(failure) => Err(failure),
+    }
+}
+
 // The whole input is read into the buffer, part by part, and fed.
 pub fn take_input<R: io::Read, W: io::Write, S: Feed>(
     reader: &mut R,
@@ -100,10 +123,11 @@ pub fn take_input<R: io::Read, W: io::Write, S: Feed>(
         result service.new (R.remaining reader.new) (W.contents writer.new) }
 {
     'reads: for _ in 0..u64::MAX {
-        let Some(n) = read_front(reader, input)? else {
+        let read = read_front(reader, input);
+        let more = follow(writer, service, read, input, out)?;
+        if !more {
             return Ok(()); // the end of the input
-        };
-        relay(writer, service, &input[..n], out)?;
+        }
     }
     Err(Failure::TooLong)
 }
